@@ -1,0 +1,5 @@
+-- The definitions that the contracts of `blender` cite.
+pub mod Mux
+pub mod Coverage
+pub mod Known
+pub mod Blend

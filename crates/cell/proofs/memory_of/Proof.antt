@@ -1,0 +1,33 @@
+-- `cell::memory_of` meets its contract: the three bytes as floats, or zeros. Assumes nothing.
+use borrow.Author.Needs.{needs}
+use lib.Ieee.{ofBits, Float}
+use mathlib.Core.Path.{sym}
+use mathlib.Core.Bool.{cond}
+use Rattle.num.specs.Color.{f0}
+use Rattle.cell.specs.Rules.{memoryOf}
+use Rattle.cell.proofs.memory_of.Statement.{statement}
+use Rattle.cell.proofs.memory_of.Tie as tie
+
+unit-of-requires : tie.Need-unit-of-requires
+unit-of-requires c κs = search needs
+
+unit-of-requires-2 : tie.Need-unit-of-requires-2
+unit-of-requires-2 c κs = search needs
+
+unit-of-requires-3 : tie.Need-unit-of-requires-3
+unit-of-requires-3 c κs = search needs
+
+returns : tie.Need-returns
+unfolding memoryOf ofBits
+returns c =
+    let r = c .before .before .unit-of .ensures in
+    let g = c .before .unit-of2 .ensures in
+    let b = c .unit-of3 .ensures in
+    λ i. cond (sym (c .before .before .before .if1 .taken) i) (record { r = r i; g = g i; b = b i; a = f0 }) (record { r = f0; g = f0; b = f0; a = f0 })
+
+returns-2 : tie.Need-returns-2
+unfolding memoryOf ofBits
+returns-2 c = simp (c .if1 .left)
+
+pub memory-of-spec : {M : Type 1} → statement M
+memory-of-spec = tie.close (tie.spec unit-of-requires unit-of-requires-2 unit-of-requires-3 returns returns-2)

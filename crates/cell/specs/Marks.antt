@@ -1,0 +1,25 @@
+-- Mark bytes: mark 1 says that a pixel's colour is known, mark 2 that its coverage is; a mark byte is their sum. Definitions only.
+-- Source: document 01, "The frame (ours)". Bytes above 3 are read the same way: odd, and the remainder by 4.
+use Prim.Native.Nat.{ℕ, _%_}
+use mathlib.Core.Bool.{Bool, true, false, cond}
+use lib.Dec.{leb, eqb}
+use Rattle.blender.specs.declared.Coverage.{Coverage}
+use Rattle.blender.specs.declared.Coverage.the-variants.{Unknown, Known}
+
+abbrev pub colorMarked : ℕ → Bool
+colorMarked mark = eqb (mark % 2) 1
+
+abbrev pub coverageMarked : ℕ → Bool
+coverageMarked mark = leb 2 (mark % 4)
+
+-- what is known of a coverage byte
+abbrev pub coverageOf : ℕ → ℕ → Coverage
+coverageOf mark coverage = cond (coverageMarked mark) (Known coverage) Unknown
+
+abbrev pub unknown : Coverage → Bool
+unknown Unknown = true
+unknown (Known c) = false
+
+-- the mark byte of a colour that is known or not and of a coverage
+unfoldable pub markOf : Bool → Coverage → ℕ
+markOf known coverage = cond known (cond (unknown coverage) 1 3) (cond (unknown coverage) 0 2)

@@ -1,0 +1,91 @@
+-- Rules F1 to F5 of document 01, "The frame (ours)": what one emitted pixel does to the five bytes of its place in the frame, all on the old bytes.
+-- Definitions only. F1, F3 and F5 rest on `color_known`, `blend` and `destination` of the Rust, whose definitions are crate blender's.
+use Prim.Native.Nat.{ℕ, _-_}
+use mathlib.Core.Bool.{Bool, true, false, cond, not, _&&_, _||_}
+use lib.IntN.{pos}
+use lib.Dec.{eqb}
+use lib.Ieee.{Float, binary32, ofInt, div}
+use Rattle.num.specs.Color.{f0}
+use Rattle.num.specs.Whole.{f255}
+use Rattle.mode.specs.declared.RenderMode.{RenderMode}
+use Rattle.mode.specs.declared.Rgba.{Rgba}
+use Rattle.combiner.specs.declared.Combiner.{Combiner}
+use Rattle.blender.specs.declared.Bytes.{Bytes}
+use Rattle.blender.specs.declared.Coverage.{Coverage}
+use Rattle.blender.specs.declared.Coverage.the-variants.{Unknown, Known}
+use Rattle.blender.specs.Coverage.{destinationOf}
+use Rattle.blender.specs.Known.{reject, colorKnown}
+use Rattle.blender.specs.Blend.{blendOf}
+use Rattle.cell.specs.declared.Cell.{Cell}
+use Rattle.cell.specs.declared.Colors.{Colors}
+use Rattle.cell.specs.declared.Source.{Source}
+use Rattle.cell.specs.Marks.{colorMarked, coverageOf, unknown, markOf}
+
+-- F1: `color_known`, asked with the pixel's alpha, its count, the coverage if it is marked, and whether the colour is marked
+unfoldable pub ruleF1 : RenderMode → Source → Coverage → Bool → Bool
+ruleF1 mode s coverage marked = colorKnown mode (s .color .a) (s .count) coverage marked
+
+-- F2: in doubt. The coverage is unmarked, antialias is on, force_blend is off, and the pixel is not one with A 0, B 0 and alpha 1.0 or more
+unfoldable pub ruleF2 : RenderMode → Source → Coverage → Bool
+ruleF2 mode s coverage =
+    unknown coverage && mode .antialias && not (mode .«force_blend») && not (reject mode (s .color .a))
+
+-- F1 and F2: whether the colour is known after the pixel
+unfoldable pub verdictOf : RenderMode → Source → Coverage → Bool → Bool
+verdictOf mode s coverage marked = ruleF1 mode s coverage marked && not (ruleF2 mode s coverage)
+
+-- a byte as a colour: byte / 255.0, rounded once
+abbrev pub unit : ℕ → Float
+unit byte = div binary32 (ofInt binary32 (pos byte)) f255
+
+-- the memory's colour for `blend`: zeros if it is unmarked. Its alpha goes into no blend
+unfoldable pub memoryOf : Bool → Cell → Rgba
+memoryOf marked x =
+    cond marked (record { r = unit (x .red); g = unit (x .green); b = unit (x .blue); a = f0 }) (record { r = f0; g = f0; b = f0; a = f0 })
+
+-- an unmarked coverage is passed as 0
+abbrev pub orZero : Coverage → ℕ
+orZero Unknown = 0
+orZero (Known c) = c
+
+-- F3: on yes, the first three bytes of `blend`
+unfoldable pub ruleF3 : RenderMode → Combiner → Source → Coverage → Rgba → Colors
+ruleF3 mode k s coverage memory =
+    let bytes = blendOf mode k (s .color) memory (s .«shade_alpha») (s .count) (orZero coverage) in
+    record { red = bytes .r; green = bytes .g; blue = bytes .b }
+
+-- F4: on no, the bytes stay
+abbrev pub ruleF4 : Cell → Colors
+ruleF4 x = record { red = x .red; green = x .green; blue = x .blue }
+
+-- F5, an unmarked coverage: 7 if cvg_dst is 2, count - 1 if cvg_dst is 0 with force_blend and antialias both off, else unmarked still
+unfoldable pub freshCoverage : RenderMode → ℕ → Coverage
+freshCoverage mode n =
+    cond (eqb (mode .«cvg_dst») 2) (Known 7)
+    (cond (eqb (mode .«cvg_dst») 0 && not (mode .«force_blend») && not (mode .antialias)) (Known (n - 1)) Unknown)
+
+-- F5: a marked coverage becomes `destination`'s answer
+unfoldable pub ruleF5 : RenderMode → ℕ → Coverage → Coverage
+ruleF5 mode n (Known c) = Known (destinationOf mode n c)
+ruleF5 mode n Unknown = freshCoverage mode n
+
+-- an unmarked coverage byte stays
+abbrev pub coverageByte : Coverage → ℕ → ℕ
+coverageByte Unknown old = old
+coverageByte (Known c) old = c
+
+-- the five rules together: F3 and mark 1 on yes, F4 and no mark 1 on no, and F5
+unfoldable pub cellStep : RenderMode → Combiner → Source → Cell → Cell
+cellStep mode k s x =
+    let coverage = coverageOf (x .mark) (x .coverage) in
+    let marked = colorMarked (x .mark) in
+    let yes = verdictOf mode s coverage marked in
+    let colors = cond yes (ruleF3 mode k s coverage (memoryOf marked x)) (ruleF4 x) in
+    let after = ruleF5 mode (s .count) coverage in
+    record {
+      red = colors .red;
+      green = colors .green;
+      blue = colors .blue;
+      coverage = coverageByte after (x .coverage);
+      mark = markOf yes after;
+    }

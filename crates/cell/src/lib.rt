@@ -1,0 +1,257 @@
+// Rules F1 to F5 of document 01 on one emitted pixel: the five bytes of a pixel by value, before and after. A byte is read only through what its mark
+// allows; an unmarked one is only ever kept.
+ghost use mathlib.Core.Path.{_≡_};
+ghost use mathlib.Core.Bool.{cond};
+ghost use Prim.Native.Nat.{_≤_};
+ghost use Rattle.cell.specs.Marks.{colorMarked, coverageMarked, coverageOf, unknown, markOf};
+ghost use Rattle.cell.specs.Rules.{ruleF2, verdictOf, unit, memoryOf, orZero, ruleF3, ruleF4, freshCoverage, ruleF5, coverageByte, cellStep};
+use blender::Coverage;
+use combiner::Combiner;
+use mode::RenderMode;
+use mode::Rgba;
+
+// A pixel of the frame.
+pub struct Cell {
+    pub red: u8,
+    pub green: u8,
+    pub blue: u8,
+    pub coverage: u8,
+    pub mark: u8,
+}
+
+// A pixel's colour bytes.
+pub struct Colors {
+    pub red: u8,
+    pub green: u8,
+    pub blue: u8,
+}
+
+// An emitted pixel: its combined colour, its shade alpha and its number of samples.
+pub struct Source {
+    pub color: Rgba,
+    pub shade_alpha: f32,
+    pub count: u8,
+}
+
+// Mark 1.
+pub fn color_marked(mark: u8) -> bool
+    ensures { λ r. ⌜ r ≡ colorMarked mark ⌝ }
+{
+    mark % 2 == 1
+}
+
+// Mark 2.
+pub fn coverage_marked(mark: u8) -> bool
+    ensures { λ r. ⌜ r ≡ coverageMarked mark ⌝ }
+{
+    2 <= mark % 4
+}
+
+// The coverage, where it is marked.
+pub fn coverage_of(mark: u8, coverage: u8) -> Coverage
+    ensures { λ r. ⌜ r ≡ coverageOf mark coverage ⌝ }
+{
+    if coverage_marked(mark) {
+        return Coverage::Known(coverage);
+    }
+    Coverage::Unknown
+}
+
+fn is_unknown(coverage: Coverage) -> bool
+    ensures { λ r. ⌜ r ≡ unknown coverage ⌝ }
+{
+    match coverage {
+        Coverage::Unknown => true,
+        Coverage::Known(_) => false,
+    }
+}
+
+// The mark byte of a colour and a coverage.
+pub fn mark_of(known: bool, coverage: Coverage) -> u8
+    ensures { λ r. ⌜ r ≡ markOf known coverage ⌝ }
+{
+    let bare = is_unknown(coverage);
+    if known {
+        if bare {
+            return 1;
+        }
+        return 3;
+    }
+    if bare {
+        return 0;
+    }
+    2
+}
+
+// F2.
+fn in_doubt(mode: RenderMode, source: Source, coverage: Coverage) -> bool
+    ensures { λ r. ⌜ r ≡ ruleF2 mode source coverage ⌝ }
+{
+    if is_unknown(coverage) {
+        if mode.antialias {
+            if mode.force_blend {
+                return false;
+            }
+            return !blender::rejects(mode, source.color.a);
+        }
+        return false;
+    }
+    false
+}
+
+// F1 and F2: whether the colour is known after the pixel.
+pub fn verdict(mode: RenderMode, source: Source, coverage: Coverage, marked: bool) -> bool
+    ensures { λ r. ⌜ r ≡ verdictOf mode source coverage marked ⌝ }
+{
+    if blender::color_known(mode, source.color.a, source.count, coverage, marked) {
+        return !in_doubt(mode, source, coverage);
+    }
+    false
+}
+
+fn unit_of(byte: u8) -> f32
+    ensures { λ r. ⌜ r ≡ unit byte ⌝ }
+{
+    byte as f32 / 255.0
+}
+
+// The colour bytes are looked at only if they are marked.
+fn memory_of(marked: bool, cell: Cell) -> Rgba
+    ensures { λ r. ⌜ r ≡ memoryOf marked cell ⌝ }
+{
+    if marked {
+        return Rgba {
+            r: unit_of(cell.red),
+            g: unit_of(cell.green),
+            b: unit_of(cell.blue),
+            a: 0.0,
+        };
+    }
+    Rgba {
+        r: 0.0,
+        g: 0.0,
+        b: 0.0,
+        a: 0.0,
+    }
+}
+
+fn known_or_zero(coverage: Coverage) -> u8
+    ensures { λ r. ⌜ r ≡ orZero coverage ⌝ }
+{
+    match coverage {
+        Coverage::Unknown => 0,
+        Coverage::Known(c) => c,
+    }
+}
+
+// F3.
+fn blended(
+    mode: RenderMode,
+    combiner: Combiner,
+    source: Source,
+    coverage: Coverage,
+    memory: Rgba,
+) -> Colors
+    ensures { λ r. ⌜ r ≡ ruleF3 mode combiner source coverage memory ⌝ }
+{
+    let c = known_or_zero(coverage);
+    let color = source.color;
+    let bytes = blender::blend(
+        mode,
+        combiner,
+        color,
+        memory,
+        source.shade_alpha,
+        source.count,
+        c,
+    );
+    Colors {
+        red: bytes.r,
+        green: bytes.g,
+        blue: bytes.b,
+    }
+}
+
+// F3 and F4.
+fn next_colors(
+    yes: bool,
+    mode: RenderMode,
+    combiner: Combiner,
+    source: Source,
+    coverage: Coverage,
+    marked: bool,
+    cell: Cell,
+) -> Colors
+    ensures { λ r. ⌜ r ≡ cond yes (ruleF3 mode combiner source coverage (memoryOf marked cell)) (ruleF4 cell) ⌝ }
+{
+    if yes {
+        return blended(mode, combiner, source, coverage, memory_of(marked, cell));
+    }
+    Colors {
+        red: cell.red,
+        green: cell.green,
+        blue: cell.blue,
+    }
+}
+
+// F5, an unmarked coverage.
+fn fresh(mode: RenderMode, count: u8) -> Coverage
+    requires { ⌜ 1 ≤ count ⌝ }
+    ensures { λ r. ⌜ r ≡ freshCoverage mode count ⌝ }
+{
+    let dst = mode.cvg_dst;
+    if dst == 2 {
+        return Coverage::Known(7);
+    }
+    if dst != 0 {
+        return Coverage::Unknown;
+    }
+    if mode.force_blend {
+        return Coverage::Unknown;
+    }
+    if mode.antialias {
+        return Coverage::Unknown;
+    }
+    Coverage::Known(count - 1)
+}
+
+// F5.
+fn next_coverage(mode: RenderMode, count: u8, coverage: Coverage) -> Coverage
+    requires { ⌜ (1 ≤ count) × (count ≤ 8) ⌝ ∗ ⌜ orZero coverage ≤ 7 ⌝ }
+    ensures { λ r. ⌜ r ≡ ruleF5 mode count coverage ⌝ }
+{
+    match coverage {
+        Coverage::Known(c) => Coverage::Known(blender::destination(mode, count, c)),
+        Coverage::Unknown => fresh(mode, count),
+    }
+}
+
+fn kept_or_known(coverage: Coverage, old: u8) -> u8
+    ensures { λ r. ⌜ r ≡ coverageByte coverage old ⌝ }
+{
+    match coverage {
+        Coverage::Unknown => old,
+        Coverage::Known(c) => c,
+    }
+}
+
+// F1 to F5: the five bytes of a pixel after it is emitted once. Numbers 1 to 3 leave no known coverage above 7.
+pub fn cell_step(mode: RenderMode, combiner: Combiner, source: Source, cell: Cell) -> Cell
+    requires { ⌜ (1 ≤ source .count) × (source .count ≤ 8) ⌝ ∗ ⌜ orZero (coverageOf (cell .mark) (cell .coverage)) ≤ 7 ⌝ }
+    ensures { λ r. ⌜ r ≡ cellStep mode combiner source cell ⌝ }
+{
+    let mark = cell.mark;
+    let old = cell.coverage;
+    let coverage = coverage_of(mark, old);
+    let marked = color_marked(mark);
+    let yes = verdict(mode, source, coverage, marked);
+    let colors = next_colors(yes, mode, combiner, source, coverage, marked, cell);
+    let after = next_coverage(mode, source.count, coverage);
+    Cell {
+        red: colors.red,
+        green: colors.green,
+        blue: colors.blue,
+        coverage: kept_or_known(after, old),
+        mark: mark_of(yes, after),
+    }
+}

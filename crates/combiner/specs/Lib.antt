@@ -1,0 +1,4 @@
+-- The definitions that the contracts of `combiner` cite.
+pub mod Combine
+pub mod Strict
+pub mod New

@@ -1,0 +1,8 @@
+-- What the proofs of `edges` share, and the laws that callers cite.
+pub mod Bits
+pub mod Size
+pub mod Held
+pub mod Tame
+pub mod Ones
+pub mod Outside
+pub mod Eights

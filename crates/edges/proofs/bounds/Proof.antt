@@ -1,0 +1,36 @@
+-- `edges::bounds` meets its contract: what lies outside the outermost edges has no sample. Assumes nothing.
+use mathlib.Core.Path.{ap, _∙_, subst⁻¹}
+use lib.IntN.{ℤ, pos, _+ℤ_}
+use lib.Signed.{shrZ}
+use borrow.Author.Needs.{needs}
+use Rattle.range.specs.Kept.{Kept}
+use Rattle.edges.specs.Bound.{noSample, rangeOf}
+use Rattle.edges.proofs.Held.{got, lit, add, fit-plus, part}
+use Rattle.edges.proofs.Outside.{kept-pixels}
+use Rattle.edges.proofs.bounds.Statement.{statement}
+use Rattle.edges.proofs.bounds.Tie as tie
+
+outermost-requires : tie.Need-outermost-requires
+outermost-requires c κs = search needs
+
+outermost-requires-2 : tie.Need-outermost-requires-2
+outermost-requires-2 c κs = search needs
+
+add-within : tie.Need-add-within
+add-within c = fit-plus _ (part (got (c .outermost2 .result) (c .outermost2 .ok)) 8 tt) tt
+
+within-requires : tie.Need-within-requires
+within-requires c κs = search needs
+
+returns : tie.Need-returns
+returns c =
+    let d = c .before in
+    let a = d .before .before .before .before .args in
+    let l = part (got (d .before .outermost .result) (d .before .outermost .ok)) 8 tt .read ∙ ap (λ (z : ℤ). shrZ z 8) (d .before .outermost .ensures) in
+    let r = add (part (got (d .outermost2 .result) (d .outermost2 .ok)) 8 tt) (lit 1 tt) tt .read ∙ ap (λ (z : ℤ). shrZ z 8 +ℤ pos 1) (d .outermost2 .ensures) in
+    subst⁻¹ (Kept (noSample (a .e)) (a .x0) (a .x1)) (c .within .ensures ∙ (λ i. rangeOf (l i) (r i) (a .x0) (a .x1)))
+    (kept-pixels (a .e) (a .x0) (a .x1) (d .before .before .before .before .pre))
+
+pub bounds-spec : {M : Type 1} → statement M
+bounds-spec =
+    tie.close (tie.spec outermost-requires outermost-requires-2 add-within within-requires returns)

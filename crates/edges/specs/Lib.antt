@@ -1,0 +1,6 @@
+-- The definitions that the contracts of `edges` cite.
+pub mod Edge
+pub mod Span
+pub mod Sample
+pub mod Bound
+pub mod Limits

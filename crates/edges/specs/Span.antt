@@ -1,0 +1,58 @@
+-- What a triangle spans on a quarter line. The major edge runs from the first corner to the last, the other two meet at the middle one (N64
+-- Programming Manual, "high, middle and low" edges; N64brew, "Triangle rasterization"); which lines count, and that the lower edge starts at the
+-- middle corner itself, is the Rust's. Definitions only.
+use Prim.Native.Nat.{ℕ, _+_, _*_}
+use mathlib.Core.Bool.{Bool, true, false}
+use mathlib.Core.List.{List, [], _∷_, map}
+use lib.IntN.{ℤ, pos, _*ℤ_}
+use lib.Signed.{ltZ, leZ}
+use Rattle.edges.specs.declared.Corner.{Corner}
+use Rattle.edges.specs.declared.Edge.{Edge}
+use Rattle.edges.specs.declared.Tri.{Tri}
+use Rattle.edges.specs.declared.Span.{Span}
+use Rattle.edges.specs.declared.Edges.{Edges}
+use Rattle.edges.specs.Edge.{slopeOf, cornerAt, edgeFrom, crossOf}
+
+-- the edges of the triangle a, b, c, sorted top to bottom
+unfoldable pub triBy : Corner → Corner → Corner → Tri
+triBy a b c = record {
+  major = edgeFrom a (slopeOf a c);
+  upper = edgeFrom a (slopeOf a b);
+  lower = record { start = b .x *ℤ pos 16384; step = slopeOf b c; base = b .y };
+  top = a .y;
+  mid = b .y;
+  end = c .y;
+  rightward = leZ (slopeOf a c) (slopeOf a b);
+}
+
+abbrev pub triOf : List Corner → Tri
+triOf v = triBy (cornerAt v 0) (cornerAt v 1) (cornerAt v 2)
+
+-- from the major edge to the other, or the other way round
+abbrev pub spanBy : Bool → ℤ → ℤ → Span
+spanBy true m n = record { l = m; r = n }
+spanBy false m n = record { l = n; r = m }
+
+unfoldable pub spanOf : Edge → Edge → Bool → ℕ → Span
+spanOf major other rightward n = spanBy rightward (crossOf major n) (crossOf other n)
+
+abbrev pub pickSpan : Bool → Span → Span → Span
+pickSpan true a b = a
+pickSpan false a b = b
+
+abbrev pub noSpan : Span
+noSpan = record { l = pos 0; r = pos 0 }
+
+-- on quarter line n: nothing above the top or from the end; the upper edge above mid, the lower one from there
+unfoldable pub lineOf : Tri → ℕ → Span
+lineOf t n =
+    pickSpan (ltZ (pos n) (t .top)) noSpan
+    (pickSpan (leZ (t .end) (pos n)) noSpan
+    (pickSpan (ltZ (pos n) (t .mid)) (spanOf (t .major) (t .upper) (t .rightward) n) (spanOf (t .major) (t .lower) (t .rightward) n)))
+
+-- the four quarter lines of row y
+unfoldable pub edgesOf : Tri → ℕ → Edges
+edgesOf t y = record {
+  left = map (λ s. lineOf t (y * 4 + s) .l) (0 ∷ 1 ∷ 2 ∷ 3 ∷ []);
+  right = map (λ s. lineOf t (y * 4 + s) .r) (0 ∷ 1 ∷ 2 ∷ 3 ∷ []);
+}

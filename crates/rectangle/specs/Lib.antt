@@ -1,0 +1,3 @@
+-- The definitions that the contracts of `rectangle` cite.
+pub mod Rectangle
+pub mod Window

@@ -1,0 +1,18 @@
+-- What a rectangle's rows and columns leave out when its pixels are looked for only between its sides, as writeback.rs `rasterize` does. Definitions only.
+use Prim.Native.Nat.{ℕ, _+_, _*_, _<_}
+use mathlib.Core.Path.{_≡_}
+use mathlib.Core.Bool.{false}
+use lib.Ieee.{Float}
+use Rattle.rectangle.specs.declared.Sides.{Sides}
+use Rattle.rectangle.specs.Rectangle.{quarters, withinOf, rectMask}
+
+-- no quarter of pixel n of an axis lies between the axis's two sides
+abbrev pub Untouched : Float → Float → ℕ → Type 0
+Untouched low high n = (q : ℕ) → q < 4 → withinOf low high (quarters (n * 4 + q)) ≡ false
+
+-- no pixel of a column, and of a row, has a sample
+abbrev pub EmptyColumn : Sides → ℕ → Type 0
+EmptyColumn s x = (y : ℕ) → rectMask s x y ≡ 0
+
+abbrev pub EmptyRow : Sides → ℕ → Type 0
+EmptyRow s y = (x : ℕ) → rectMask s x y ≡ 0

@@ -1,0 +1,3 @@
+-- What several proofs of `selectors` share.
+pub mod Tables
+pub mod Words

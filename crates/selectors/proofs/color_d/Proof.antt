@@ -1,0 +1,20 @@
+-- `selectors::color_d` meets its contract: each arm gives the entry of `colorD` at its number, and the default arm is past the end. Assumes nothing.
+use Rattle.selectors.specs.declared.ColorIn.the-variants as color
+use Rattle.selectors.specs.Combine.{colorD}
+use Rattle.selectors.proofs.Tables.{entry, rest}
+use Rattle.selectors.proofs.color_d.Statement.{statement}
+use Rattle.selectors.proofs.color_d.Tie as tie
+
+pub color-d-spec : {M : Type 1} → statement M
+unfolding colorD
+color-d-spec =
+    tie.close
+    (tie.spec
+    (λ c. entry colorD color.Zero 3 (c .before .args .idx) (c .match .keys1))
+    (λ c. entry colorD color.Zero 3 (c .before .args .idx) (c .match .keys2))
+    (λ c. entry colorD color.Zero 3 (c .before .args .idx) (c .match .keys3))
+    (λ c. entry colorD color.Zero 3 (c .before .args .idx) (c .match .keys4))
+    (λ c. entry colorD color.Zero 3 (c .before .args .idx) (c .match .keys5))
+    (λ c. entry colorD color.Zero 3 (c .before .args .idx) (c .match .keys6))
+    (λ c. entry colorD color.Zero 3 (c .before .args .idx) (c .match .keys7))
+    (λ c. rest colorD color.Zero 3 (c .before .args .idx) (c .match .rest)))

@@ -1,0 +1,2 @@
+-- The definitions that the contracts of `selectors` cite.
+pub mod Combine

@@ -1,0 +1,4 @@
+-- The definitions that the contracts of `vertex` cite.
+pub mod Range
+pub mod Sorted
+pub mod Shade

@@ -1,0 +1,200 @@
+//! The port's C interface (crate `exports`): its structs, its functions, and a safe function for each.
+
+use crate::words::{Sheet, Words};
+
+/// A struct of the interface, and its fields as words.
+macro_rules! c_struct {
+    ($(#[$doc:meta])* $name:ident { $($field:ident: $kind:ty,)* }) => {
+        $(#[$doc])*
+        #[repr(C)]
+        #[derive(Clone, Copy, Debug, Default)]
+        pub struct $name {
+            $(pub $field: $kind,)*
+        }
+
+        impl Words for $name {
+            fn words(&self, sheet: &mut Sheet) {
+                $(self.$field.words(sheet);)*
+            }
+
+            fn alike(&self, other: &Self) -> bool {
+                $(self.$field.alike(&other.$field))&&*
+            }
+        }
+    };
+}
+
+c_struct! { Rgba { r: f32, g: f32, b: f32, a: f32, } }
+
+c_struct! {
+    /// The Rust's `RenderMode`, its enums by their number.
+    Mode {
+        cycle_type: u32,
+        blender_mux: u16,
+        rgb_dither: u8,
+        alpha_dither: u8,
+        cvg_dst: u8,
+        blend_class: u8,
+        fallback_class: u8,
+        z_mode: u8,
+        alpha_compare: u8,
+        key_enabled: bool,
+        image_read: bool,
+        antialias: bool,
+        alpha_cvg_select: bool,
+        color_on_coverage: bool,
+        force_blend: bool,
+        non_canonical_blend: bool,
+        z_source_prim: bool,
+        z_test: bool,
+        z_write: bool,
+        fog: bool,
+        cvg_x_alpha: bool,
+    }
+}
+
+c_struct! {
+    /// The Rust's `CombinerUniform`.
+    Uniform {
+        combine_l: u32,
+        combine_h: u32,
+        cycle_type: u32,
+        tex_enable: u32,
+        blender_mux: u32,
+        force_blend: u32,
+        alpha_flags: u32,
+        alpha_threshold: f32,
+        prim: Rgba,
+        env: Rgba,
+        blend_color: Rgba,
+        fog_color: Rgba,
+        inv_tex_size: [f32; 4],
+        inv_tex1_size: [f32; 4],
+        lod_params: [f32; 4],
+        inv_detail_size: [f32; 4],
+        frame: [u32; 4],
+        is_rect: u32,
+        coverage_slot: u32,
+        fill_word: u32,
+        fill_siz: u32,
+        primitive_depth: [u32; 4],
+        native_scale: [f32; 4],
+        raster: [u32; 4],
+    }
+}
+
+const _: () = assert!(std::mem::size_of::<Uniform>() == 240);
+
+c_struct! {
+    /// The Rust's `Combiner`. The selectors are ca, cb, cc, cd, aa, ab, ac, ad by their number in the Rust's enums.
+    Combiner {
+        selectors: [u8; 8],
+        prim: Rgba,
+        env: Rgba,
+        blend: Rgba,
+        fog: Rgba,
+        lod: f32,
+    }
+}
+
+c_struct! {
+    /// Document 01's number, and the value: a coverage, 1 for yes, a word, or bytes with the first lowest.
+    Answer { number: u32, value: u32, }
+}
+
+c_struct! { Selectors { raw_l: u32, raw_h: u32, cyc0: [u8; 8], cyc1: [u8; 8], } }
+
+/// A struct of the interface for an `Option`. What stands beside `some: false` is no part of the answer, and its words
+/// are zeros.
+macro_rules! c_option {
+    ($name:ident { $field:ident: $kind:ty }) => {
+        #[repr(C)]
+        #[derive(Clone, Copy, Debug)]
+        pub struct $name {
+            some: bool,
+            $field: $kind,
+        }
+
+        impl From<Option<$kind>> for $name {
+            fn from(value: Option<$kind>) -> Self {
+                $name { some: value.is_some(), $field: value.unwrap_or_default() }
+            }
+        }
+
+        impl Words for $name {
+            fn words(&self, sheet: &mut Sheet) {
+                self.some.words(sheet);
+                let shown = if self.some { self.$field } else { <$kind>::default() };
+                shown.words(sheet);
+            }
+
+            fn alike(&self, other: &Self) -> bool {
+                self.some == other.some && (!self.some || self.$field.alike(&other.$field))
+            }
+        }
+    };
+}
+
+c_option! { ColorAnswer { rgba: Rgba } }
+c_option! { CombinerAnswer { combiner: Combiner } }
+
+/// Every function of the interface: the name of its call's struct (calls.rs), its own name, its symbol and its type.
+macro_rules! interface {
+    ($then:ident) => {
+        $then! {
+            ColorA color_a = wb_color_a(index: u32) -> u32;
+            ColorB color_b = wb_color_b(index: u32) -> u32;
+            ColorC color_c = wb_color_c(index: u32) -> u32;
+            ColorD color_d = wb_color_d(index: u32) -> u32;
+            AlphaAbd alpha_abd = wb_alpha_abd(index: u32) -> u32;
+            AlphaC alpha_c = wb_alpha_c(index: u32) -> u32;
+            DecodeCombine decode_combine = wb_decode_combine(w0: u32, w1: u32) -> Selectors;
+            Clamp clamp = wb_clamp(x: f32) -> f32;
+            ByteOf byte_of = wb_byte_of(x: f32) -> u8;
+            Quarter quarter = wb_quarter(x: f32) -> i64;
+            FloorIndex floor_index = wb_floor_index(x: f32) -> u32;
+            CeilIndex ceil_index = wb_ceil_index(x: f32) -> u32;
+            IsFinite is_finite = wb_is_finite(x: f32) -> bool;
+            LeTotal le_total = wb_le_total(a: f32, b: f32) -> bool;
+            CombinerNew combiner_new = wb_combiner_new(uniform: Uniform, mode: Mode) -> CombinerAnswer;
+            CombinerColor combiner_color = wb_combiner_color(combiner: Combiner, shade: Rgba) -> ColorAnswer;
+            StrictColor strict_color = wb_strict_color(combiner: Combiner) -> Answer;
+            Destination destination = wb_destination(mode: Mode, count: u8, memory: u8) -> Answer;
+            ColorKnown color_known = wb_color_known(
+                mode: Mode, alpha: f32, count: u8, known: bool, coverage: u8, memory_rgb: bool
+            ) -> Answer;
+            Blend blend = wb_blend(
+                mode: Mode, combiner: Combiner, rgba: Rgba, memory: Rgba, shade_alpha: f32, count: u8, coverage: u8
+            ) -> Answer;
+            PackColor pack_color = wb_pack_color(rgba: u32, coverage: u8, dither: u8) -> Answer;
+            PackDepth pack_depth = wb_pack_depth(depth: f32) -> u32;
+            Supported supported = wb_supported(fmt: u8, siz: u8, width: u32, depth: bool) -> Answer;
+            PixelBytes pixel_bytes = wb_pixel_bytes(fmt: u8, siz: u8, width: u32, depth: bool) -> Answer;
+            Encode encode = wb_encode(
+                fmt: u8, siz: u8, width: u32, depth: bool, rgba: u32, coverage: u8, pixel: u32, literal: bool, word: u32,
+                rgb_dither: u8, big_endian: bool
+            ) -> Answer;
+        }
+    };
+}
+
+pub(crate) use interface;
+
+/// The library's symbols, and a safe function over each.
+macro_rules! functions {
+    ($($call:ident $name:ident = $symbol:ident($($argument:ident: $kind:ty),*) -> $answer:ty;)*) => {
+        extern "C" {
+            $(fn $symbol($($argument: $kind),*) -> $answer;)*
+        }
+
+        $(
+            #[allow(clippy::too_many_arguments)]
+            pub fn $name($($argument: $kind),*) -> $answer {
+                // SAFETY: the library's functions are total, and take and give plain values.
+                unsafe { $symbol($($argument),*) }
+            }
+        )*
+    };
+}
+
+interface! { functions }
