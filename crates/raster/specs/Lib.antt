@@ -1,0 +1,5 @@
+-- The definitions that the contracts of `raster` cite.
+pub mod Parts
+pub mod Area
+pub mod Admitted
+pub mod Emitted

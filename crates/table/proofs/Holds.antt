@@ -1,0 +1,61 @@
+-- The ten rows hold of the definitions: one test that antt computes over the whole table, and a law that turns it into the statement. Assumes nothing.
+use mathlib.Core.Path.{_≡_, refl, sym, ap}
+use mathlib.Core.Bool.{Bool, true, false, _&&_, true≢false}
+use mathlib.Core.List.{List, [], _∷_}
+use borrow.Author.Tests.{eqb-true}
+use lib.Count.{ones}
+use lib.Dec.{eqb}
+use lib.IntN.{ℤ, pos, negsuc}
+use lib.Ieee.{lt, le, mul, add, sub, div, ofInt}
+use Rattle.bits.specs.Field.{field}
+use Rattle.selectors.specs.Combine.{cycle1, select, command}
+use Rattle.blender.specs.Mux.{muxOf}
+use Rattle.blender.specs.Coverage.{blends, clampOf, destinationOf}
+use Rattle.blender.specs.Known.{reject, alone}
+use Rattle.blender.specs.Blend.{factorB, mixedOf, bytesOf, blendOf}
+use Rattle.pack.specs.Color.{packChannelOf}
+use Rattle.pack.specs.Depth.{lastFrom, rangeOf, depthWord, depthOf, packDepthOf}
+use Rattle.vertex.specs.Sorted.{atOrBefore, insert, sorted}
+use Rattle.edges.specs.Edge.{quantized, slopeOf, edgeStart, edgeFrom, edgeAt, crossOf}
+use Rattle.edges.specs.Span.{triBy, spanOf, lineOf, edgesOf}
+use Rattle.edges.specs.Sample.{twoOf, pairOf, maskOf}
+use Rattle.rectangle.specs.Rectangle.{insideOf, sampleBit, rowBits, rectMask}
+use Rattle.table.specs.Table.{Entry, table, Holds}
+
+same : ℤ → ℤ → Bool
+same (pos a) (pos b) = eqb a b
+same (pos a) (negsuc b) = false
+same (negsuc a) (pos b) = false
+same (negsuc a) (negsuc b) = eqb a b
+
+test : List Entry → Bool
+test [] = true
+test (e ∷ es) = same (e .value) (e .is) && test es
+
+same-eq : (a b : ℤ) → same a b ≡ true → a ≡ b
+unfolding same
+same-eq (pos a) (pos b) t = ap pos (eqb-true a b t)
+same-eq (pos a) (negsuc b) t = absurd (true≢false (sym t))
+same-eq (negsuc a) (pos b) t = absurd (true≢false (sym t))
+same-eq (negsuc a) (negsuc b) t = ap negsuc (eqb-true a b t)
+
+left : (a b : Bool) → (a && b) ≡ true → a ≡ true
+left true b p = refl
+left false b p = p
+
+right : (a b : Bool) → (a && b) ≡ true → b ≡ true
+right true b p = p
+right false b p = absurd (true≢false (sym p))
+
+holds : (es : List Entry) → test es ≡ true → Holds es
+unfolding test
+holds [] t = tt
+holds (e ∷ es) t = (same-eq (e .value) (e .is) (left (same (e .value) (e .is)) (test es) t), holds es (right (same (e .value) (e .is)) (test es) t))
+
+computed : test table ≡ true
+unfolding test same table ones lt le mul add sub div ofInt field cycle1 select command muxOf blends clampOf destinationOf reject alone factorB mixedOf bytesOf blendOf packChannelOf lastFrom rangeOf depthWord depthOf packDepthOf atOrBefore insert sorted quantized slopeOf edgeStart edgeFrom edgeAt crossOf triBy spanOf lineOf edgesOf twoOf pairOf maskOf insideOf sampleBit rowBits rectMask
+computed = refl
+
+-- Every row of document 01's proved table holds of the definitions.
+pub table-holds : Holds table
+table-holds = holds table computed

@@ -1,0 +1,2 @@
+-- The ten rows.
+pub mod Table

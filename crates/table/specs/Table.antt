@@ -1,0 +1,139 @@
+-- "The proved table" of document 01: what the definitions must give, row by row. Definitions only. A yes is 1 and a no is 0.
+use Prim.Native.Nat.{ℕ}
+use mathlib.Core.Path.{_≡_}
+use mathlib.Core.Bool.{Bool, true, false}
+use mathlib.Core.List.{List, [], _∷_, map}
+use lib.IntN.{ℤ, pos, negsuc, negℤ}
+use lib.Ieee.{Float, fin}
+use lib.ListN.{getD}
+use Rattle.num.specs.Color.{f0, f1}
+use Rattle.mode.specs.declared.RenderMode.{RenderMode}
+use Rattle.mode.specs.declared.Rgba.{Rgba}
+use Rattle.mode.specs.declared.BlendClass.the-variants.{Replace}
+use Rattle.mode.specs.declared.ZMode.the-variants.{Opa}
+use Rattle.mode.specs.declared.AlphaCompare.the-variants.{None}
+use Rattle.selectors.specs.Combine.{cycle1}
+use Rattle.combiner.specs.declared.Combiner.{Combiner}
+use Rattle.blender.specs.Coverage.{destinationOf}
+use Rattle.blender.specs.Blend.{blendOf}
+use Rattle.pack.specs.Color.{packChannelOf}
+use Rattle.pack.specs.Depth.{packDepthOf}
+use Rattle.vertex.specs.declared.Vertex.{Vertex}
+use Rattle.vertex.specs.Range.{inRange}
+use Rattle.vertex.specs.Sorted.{sorted}
+use Rattle.edges.specs.declared.Corner.{Corner}
+use Rattle.edges.specs.Edge.{slopeOf, quantized}
+use Rattle.edges.specs.Span.{triOf, edgesOf}
+use Rattle.edges.specs.Sample.{maskOf, countOf}
+use Rattle.rectangle.specs.declared.Sides.{Sides}
+use Rattle.rectangle.specs.Rectangle.{rectMask}
+use Rattle.raster.specs.Emitted.{shown, cornerOf}
+
+-- a row of the paper, a value of the definitions, and what it must be
+pub record Entry : Type 0 where
+  pub row : ℕ
+  pub value : ℤ
+  pub is : ℤ
+
+abbrev pub entry : ℕ → ℤ → ℤ → Entry
+entry row value is = record { row = row; value = value; is = is }
+
+abbrev pub yes : Bool → ℤ
+yes true = pos 1
+yes false = pos 0
+
+-- ---- what the rows speak of
+
+-- a mode that blends nothing, but for the four given fields
+abbrev pub mode : ℕ → Bool → Bool → ℕ → RenderMode
+mode cvgDst forced antialias mux =
+    record {
+      «cycle_type» = 0;
+      «rgb_dither» = 0;
+      «alpha_dither» = 0;
+      «key_enabled» = false;
+      «cvg_dst» = cvgDst;
+      «image_read» = false;
+      antialias = antialias;
+      «alpha_cvg_select» = false;
+      «color_on_coverage» = false;
+      «blender_mux» = mux;
+      «force_blend» = forced;
+      «blend_class» = Replace;
+      «fallback_class» = Replace;
+      «non_canonical_blend» = false;
+      «z_source_prim» = false;
+      «z_test» = false;
+      «z_write» = false;
+      «z_mode» = Opa;
+      fog = false;
+      «alpha_compare» = None;
+      «cvg_x_alpha» = false;
+    }
+
+abbrev pub grey : Float → Rgba
+grey v = record { r = v; g = v; b = v; a = f1 }
+
+abbrev pub combiner : Combiner
+combiner = record { selectors = cycle1 0 0; prim = grey f0; env = grey f0; blend = grey f0; fog = grey f0; lod = f0 }
+
+-- a vertex at (x, y), in white
+abbrev pub at : Float → Float → Vertex
+at x y = record { x = x; y = y; r = f1; g = f1; b = f1; a = f1 }
+
+abbrev pub corner : ℤ → ℤ → Corner
+corner x y = record { x = x; y = y }
+
+-- m * 2 ^ -e
+abbrev pub parts : ℕ → ℕ → Float
+parts m e = fin false m (negℤ (pos e))
+
+-- the thin triangle (0, 0), (0.125, 0.25), (1, 2)
+abbrev pub thin : List Vertex
+thin = at f0 f0 ∷ at (parts 1 3) (parts 1 2) ∷ at f1 (fin false 1 (pos 1)) ∷ []
+
+-- the sides 0.25, 0, 1, 1
+abbrev pub sides : Sides
+sides = record { left = parts 1 2; top = f0; right = f1; bottom = f1 }
+
+-- ---- the table
+unfoldable pub table : List Entry
+table =
+    -- x 1023.75 is in range, 1024.0 is not
+    entry 1 (yes (inRange (at (parts 4095 2) f0))) (pos 1)
+    ∷ entry 1 (yes (inRange (at (fin false 1 (pos 10)) f0))) (pos 0)
+    -- a slope of +1 over 3 is 21,840; of -1 over 3 is -21,848
+    ∷ entry 2 (slopeOf (corner (pos 0) (pos 0)) (corner (pos 1) (pos 3))) (pos 21840)
+    ∷ entry 2 (slopeOf (corner (pos 0) (pos 0)) (corner (negsuc 0) (pos 3))) (negℤ (pos 21848))
+    -- edges 16,384, 24,576 and -2 quantise to 2, 3 and -1
+    ∷ entry 3 (quantized (pos 16384)) (pos 2)
+    ∷ entry 3 (quantized (pos 24576)) (pos 3)
+    ∷ entry 3 (quantized (negℤ (pos 2))) (negℤ (pos 1))
+    -- cvg_dst 0, count 5, memory 4: forced 7; antialias alone 4
+    ∷ entry 4 (pos (destinationOf (mode 0 true false 0) 5 4)) (pos 7)
+    ∷ entry 4 (pos (destinationOf (mode 0 false true 0) 5 4)) (pos 4)
+    -- cvg_dst 1, the same: 1
+    ∷ entry 5 (pos (destinationOf (mode 1 true false 0) 5 4)) (pos 1)
+    ∷ entry 5 (pos (destinationOf (mode 1 false true 0) 5 4)) (pos 1)
+    -- channel 5 packs to 1 at threshold 4 and to 0 at 5; 250 packs to 31 at 0
+    ∷ entry 6 (pos (packChannelOf 5 4)) (pos 1)
+    ∷ entry 6 (pos (packChannelOf 5 5)) (pos 0)
+    ∷ entry 6 (pos (packChannelOf 250 0)) (pos 31)
+    -- depth 0.5 packs to 2000 hexadecimal, 1.0 to fffc
+    ∷ entry 7 (pos (packDepthOf (parts 1 1))) (pos 0x2000)
+    ∷ entry 7 (pos (packDepthOf f1)) (pos 0xfffc)
+    -- rectangle sides 0.25, 0, 1, 1 give pixel 0 mask 77 hexadecimal, six samples; without antialias it is not emitted
+    ∷ entry 8 (pos (rectMask sides 0 0)) (pos 0x77)
+    ∷ entry 8 (pos (countOf (rectMask sides 0 0))) (pos 6)
+    ∷ entry 8 (yes (shown true (rectMask sides 0 0))) (pos 1)
+    ∷ entry 8 (yes (shown false (rectMask sides 0 0))) (pos 0)
+    -- the thin triangle gives mask 40 hexadecimal at pixel (0, 1)
+    ∷ entry 9 (pos (maskOf (edgesOf (triOf (map cornerOf (sorted thin))) 1) 0)) (pos 0x40)
+    -- unblended 0.5 becomes byte 128
+    ∷ entry 10 (pos (blendOf (mode 0 false false 0) combiner (grey (parts 1 1)) (grey f0) f1 8 7 .r)) (pos 128)
+    ∷ []
+
+-- each value is what it must be
+abbrev pub Holds : List Entry → Type 0
+Holds [] = Unit
+Holds (e ∷ es) = (e .value ≡ e .is) × Holds es
