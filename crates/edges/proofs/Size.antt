@@ -2,7 +2,7 @@
 use Prim.Native.Nat.{ℕ, zero, suc, _+_, _*_, _/_, _-_, _^_, _≤_, _<_}
 use mathlib.Core.Path.{_≡_, refl}
 use mathlib.Core.Bool.{Bool, true, false, not, cond}
-use native.Mathlib.Nat.{mod-lt, div-le-self, div-mul-le-self, add-mul}
+use native.Mathlib.Nat.{le-trans, mod-lt, div-le-self, div-mul-le-self, add-mul}
 use native.Mathlib.Omega.{arith}
 use lib.Dec.{T, ltb, ltb→lt}
 use lib.IntN.{ℤ, pos, negsuc, negℤ, _+ℤ_, _-ℤ_, _*ℤ_, natAbs, subℕ}
@@ -11,7 +11,7 @@ use mir.Syntax.{w64}
 use mir.Val.{SFits}
 use Rattle.edges.specs.declared.Corner.{Corner}
 use Rattle.edges.specs.Limits.{Near}
-use Rattle.edges.specs.Edge.{floorTo, modZ, awayDiv, atLeastOne, slopeOf}
+use Rattle.edges.specs.Edge.{floorTo, modZ, ceilDiv, awayDiv, atLeastOne, slopeOf}
 
 pub small-fits : (z : ℤ) → natAbs z < 2 ^ 63 → SFits w64 z
 small-fits (pos n) h = record { sfits = h }
@@ -64,9 +64,12 @@ pub modZ-le : (z : ℤ) (m : ℕ) → 0 < m → modZ z m ≤ m
 modZ-le (pos a) m h = omega (arith, mod-lt a h)
 modZ-le (negsuc a) m h = omega arith
 
+ceil-le : (a d : ℕ) → ceilDiv a d ≤ a + d
+ceil-le a d = le-trans (div-le-self _ d) (omega arith)
+
 pub size-away : (z : ℤ) (d : ℕ) → natAbs (awayDiv z d) ≤ natAbs z + d
-size-away (pos a) d = omega (arith, div-le-self (a + d - 1) d)
-size-away (negsuc a) d = omega (arith, size-neg (pos ((suc a + d - 1) / d)), div-le-self (suc a + d - 1) d)
+size-away (pos a) d = ceil-le a d
+size-away (negsuc a) d = omega (arith, size-neg (pos (ceilDiv (suc a) d)), ceil-le (suc a) d)
 
 pub size-one : (z : ℤ) → atLeastOne z ≤ natAbs z + 1
 size-one (pos a) = omega arith

@@ -1,6 +1,6 @@
--- What a triangle spans on a quarter line. The major edge runs from the first corner to the last, the other two meet at the middle one (N64
--- Programming Manual, "high, middle and low" edges; N64brew, "Triangle rasterization"); which lines count, and that the lower edge starts at the
--- middle corner itself, is the Rust's. Definitions only.
+-- What a triangle spans on a quarter line. The major edge runs from the first corner to the last; the other two meet at the middle one. These are
+-- the high, middle and low edges of the N64 Programming Manual and the N64brew wiki's RDP pages. Which lines count, which side is the left one and
+-- that the lower edge starts at the middle corner itself is the Rust's. Definitions only.
 use Prim.Native.Nat.{ℕ, _+_, _*_}
 use mathlib.Core.Bool.{Bool, true, false}
 use mathlib.Core.List.{List, [], _∷_, map}

@@ -1,4 +1,4 @@
--- `edges::clamp` meets its contract. Assumes nothing.
+-- `edges::clamp` meets its contract: each answer by the tests that led to it and the number's sign. Assumes nothing.
 use Prim.Native.Nat.{ℕ, _≤_, _<_, _^_}
 use mathlib.Core.Path.{_≡_, refl, sym, ap, _∙_}
 use mathlib.Core.Bool.{true, false}
@@ -16,28 +16,19 @@ use Rattle.edges.proofs.Held.{any, uns, lt-is}
 use Rattle.edges.proofs.clamp.Statement.{statement}
 use Rattle.edges.proofs.clamp.Tie as tie
 
-module _ (z : ℤ) (lo hi : ℕ) (h : lo ≤ hi) where
-  under : ltZ z (pos lo) ≡ true → lo ≡ clampOf z lo hi
-  under = by z
-    where
-      by : (y : ℤ) → ltZ y (pos lo) ≡ true → lo ≡ clampOf y lo hi
-      by (pos a) t = omega (arith, ltb-true a lo t)
-      by (negsuc a) t = refl
+under : (z : ℤ) (lo hi : ℕ) → lo ≤ hi → ltZ z (pos lo) ≡ true → lo ≡ clampOf z lo hi
+under (pos a) lo hi h t = omega (arith, ltb-true a lo t)
+under (negsuc a) lo hi h t = refl
 
-  within : ltZ z (pos lo) ≡ false → ltZ z (pos hi) ≡ true → T (nonNeg z) × (natAbs z < hi) × (natAbs z ≡ clampOf z lo hi)
-  within = by z
-    where
-      by : (y : ℤ) → ltZ y (pos lo) ≡ false → ltZ y (pos hi) ≡ true → T (nonNeg y) × (natAbs y < hi) × (natAbs y ≡ clampOf y lo hi)
-      by (pos a) t u = (tt, ltb-true a hi u, omega (arith, ltb-false a lo t, ltb-true a hi u))
-      by (negsuc a) t u = absurd (let q : _≡_ {A = ℕ} 0 1 = cc in omega arith)
+within : (z : ℤ) (lo hi : ℕ) → ltZ z (pos lo) ≡ false → ltZ z (pos hi) ≡ true → T (nonNeg z) × (natAbs z < hi) × (natAbs z ≡ clampOf z lo hi)
+within (pos a) lo hi t u = (tt, ltb-true a hi u, omega (arith, ltb-false a lo t, ltb-true a hi u))
+within (negsuc a) lo hi t u = absurd (let q : _≡_ {A = ℕ} 0 1 = cc in omega arith)
 
-  over : ltZ z (pos lo) ≡ false → ltZ z (pos hi) ≡ false → hi ≡ clampOf z lo hi
-  over = by z
-    where
-      by : (y : ℤ) → ltZ y (pos lo) ≡ false → ltZ y (pos hi) ≡ false → hi ≡ clampOf y lo hi
-      by (pos a) t u = omega (arith, ltb-false a hi u)
-      by (negsuc a) t u = cc
+over : (z : ℤ) (lo hi : ℕ) → lo ≤ hi → ltZ z (pos lo) ≡ false → ltZ z (pos hi) ≡ false → hi ≡ clampOf z lo hi
+over (pos a) lo hi h t u = omega (arith, ltb-false a hi u)
+over (negsuc a) lo hi h t u = cc
 
+-- the two tests, of the numbers themselves
 module _ (s : tie.Start) where
   low-test : ltZ (toZ w64 (ofZ w64 (s .args .z))) (toZ w64 (s .args .lo)) ≡ ltZ (s .args .z) (pos (s .args .lo))
   low-test = lt-is (any (s .fits .z)) (uns {B = 2 ^ 32} (le-of-lt (s .fits .lo .fits)) tt)
@@ -57,7 +48,7 @@ returns c = let s = c .before in under (s .args .z) (s .args .lo) (s .args .hi) 
 inside : (c : tie.Then2) → let z = c .before .before .args .z in T (nonNeg z) × (natAbs z < c .before .before .args .hi) × (natAbs z ≡ clampOf z (c .before .before .args .lo) (c .before .before .args .hi))
 inside c =
     let s = c .before .before in
-    within (s .args .z) (s .args .lo) (s .args .hi) (s .pre) (sym (low-test s) ∙ c .before .if1 .left) (sym (high-test s) ∙ c .if2 .taken)
+    within (s .args .z) (s .args .lo) (s .args .hi) (sym (low-test s) ∙ c .before .if1 .left) (sym (high-test s) ∙ c .if2 .taken)
 
 cast-result : tie.Need-cast-result
 cast-result c =

@@ -62,4 +62,15 @@ returns c =
     }
 
 pub edges-at-spec : {M : Type 1} → statement M
-edges-at-spec = tie.close (tie.spec mul-n line-at-requires add-line-at line-at-requires-2 add-line-at-2 line-at-requires-3 add-line-at-3 line-at-requires-4 returns)
+edges-at-spec =
+    tie.close
+    (tie.spec
+    mul-n
+    line-at-requires
+    add-line-at
+    line-at-requires-2
+    add-line-at-2
+    line-at-requires-3
+    add-line-at-3
+    line-at-requires-4
+    returns)

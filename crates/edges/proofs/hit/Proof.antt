@@ -1,4 +1,4 @@
--- `edges::hit` meets its contract. Assumes nothing.
+-- `edges::hit` meets its contract: the two tests on the bits are those on the numbers. Assumes nothing.
 use Prim.Native.Nat.{_^_}
 use mathlib.Core.Path.{_≡_, sym, _∙_}
 use native.Mathlib.Nat.{le-of-lt}

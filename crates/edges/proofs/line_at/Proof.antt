@@ -63,4 +63,13 @@ returns-4 c =
     c .span-at2 .ensures ∙ by s (above s (d .before .before .if1 .left)) (past s (d .before .if2 .left)) (inner s (c .before .before .if3 .left))
 
 pub line-at-spec : {M : Type 1} → statement M
-line-at-spec = tie.close (tie.spec cast-n returns returns-2 span-at-requires returns-3 span-at-requires-2 returns-4)
+line-at-spec =
+    tie.close
+    (tie.spec
+    cast-n
+    returns
+    returns-2
+    span-at-requires
+    returns-3
+    span-at-requires-2
+    returns-4)

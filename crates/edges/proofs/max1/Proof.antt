@@ -1,4 +1,4 @@
--- `edges::max1` meets its contract. Assumes nothing.
+-- `edges::max1` meets its contract: each answer by the test and the number's sign. Assumes nothing.
 use mathlib.Core.Path.{_≡_, refl, sym, ap, _∙_}
 use mathlib.Core.Bool.{true, false}
 use native.Mathlib.Omega.{arith}

@@ -42,4 +42,14 @@ returns c =
     back (c .outer3 .result) (c .outer3 .ok) ∙ c .outer3 .ensures ∙ (λ i. outerOf low (p i) (q i))
 
 pub outermost-spec : {M : Type 1} → statement M
-outermost-spec = tie.close (tie.spec array-copy-out-outer array-copy-out-outer-2 outer-requires array-copy-out-outer-3 array-copy-out-outer-4 outer-requires-2 outer-requires-3 returns)
+outermost-spec =
+    tie.close
+    (tie.spec
+    array-copy-out-outer
+    array-copy-out-outer-2
+    outer-requires
+    array-copy-out-outer-3
+    array-copy-out-outer-4
+    outer-requires-2
+    outer-requires-3
+    returns)

@@ -71,4 +71,18 @@ returns c =
     ∙ joined (getD (a .e .left) (a .s) (pos 0)) (getD (a .e .right) (a .s) (pos 0)) (sampleAt (a .x) (a .s))
 
 pub pair-spec : {M : Type 1} → statement M
-pair-spec = tie.close (tie.spec mul-l array-copy-out-l mul-r array-copy-out-r mul-n cast-n mul-n-2 add-n hit-requires add-hit hit-requires-2 returns)
+pair-spec =
+    tie.close
+    (tie.spec
+    mul-l
+    array-copy-out-l
+    mul-r
+    array-copy-out-r
+    mul-n
+    cast-n
+    mul-n-2
+    add-n
+    hit-requires
+    add-hit
+    hit-requires-2
+    returns)

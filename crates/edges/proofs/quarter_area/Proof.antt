@@ -5,7 +5,7 @@ use mir.Syntax.{w64}
 use mir.Val.{ofZ, toZ}
 use borrow.Author.Needs.{needs}
 use Rattle.edges.specs.declared.Corner.{Corner}
-use Rattle.edges.specs.Limits.{Near}
+use Rattle.edges.specs.Limits.{AllNear}
 use Rattle.edges.specs.Edge.{cornerAt, areaBy}
 use Rattle.edges.proofs.Held.{Held, diff, fit-diff, mul, fit-mul, sub, fit-sub}
 use Rattle.edges.proofs.quarter_area.Statement.{statement}
@@ -37,53 +37,47 @@ module _ (d : tie.After-c) where
   abbrev c : Corner
   c = cornerAt (start .args .t1) 2
 
-  abbrev p : Near a
-  p = start .pre .a-near
-
-  abbrev q : Near b
-  q = start .pre .b-near
-
-  abbrev r : Near c
-  r = start .pre .c-near
+  abbrev near : AllNear (start .args .t1)
+  near = start .pre
 
   -- the two products of differences
   one : Held (ofZ w64 (toZ w64 (less (b .x) (a .x)) *ℤ toZ w64 (less (c .y) (a .y)))) ((b .x -ℤ a .x) *ℤ (c .y -ℤ a .y)) 268435456
-  one = mul (diff (b .x) (a .x) (q .x-near) (p .x-near)) (diff (c .y) (a .y) (r .y-near) (p .y-near)) tt
+  one = mul (diff (b .x) (a .x) (near .b-near .x-near) (near .a-near .x-near)) (diff (c .y) (a .y) (near .c-near .y-near) (near .a-near .y-near)) tt
 
   two : Held (ofZ w64 (toZ w64 (less (b .y) (a .y)) *ℤ toZ w64 (less (c .x) (a .x)))) ((b .y -ℤ a .y) *ℤ (c .x -ℤ a .x)) 268435456
-  two = mul (diff (b .y) (a .y) (q .y-near) (p .y-near)) (diff (c .x) (a .x) (r .x-near) (p .x-near)) tt
+  two = mul (diff (b .y) (a .y) (near .b-near .y-near) (near .a-near .y-near)) (diff (c .x) (a .x) (near .c-near .x-near) (near .a-near .x-near)) tt
 
 sub-result : tie.Need-sub-result
 sub-result k =
     let d = k .before .before .before .before in
-    fit-diff (b d .x) (a d .x) (q d .x-near) (p d .x-near)
+    fit-diff (b d .x) (a d .x) (near d .b-near .x-near) (near d .a-near .x-near)
 
 sub-result-2 : tie.Need-sub-result-2
 sub-result-2 k =
     let d = k .before .before .before .before .before .before .before .before in
-    fit-diff (c d .y) (a d .y) (r d .y-near) (p d .y-near)
+    fit-diff (c d .y) (a d .y) (near d .c-near .y-near) (near d .a-near .y-near)
 
 mul-result : tie.Need-mul-result
 mul-result k =
     let d = k .before .before .before .before .before .before .before .before in
-    fit-mul (diff (b d .x) (a d .x) (q d .x-near) (p d .x-near)) (diff (c d .y) (a d .y) (r d .y-near) (p d .y-near)) tt
+    fit-mul (diff (b d .x) (a d .x) (near d .b-near .x-near) (near d .a-near .x-near)) (diff (c d .y) (a d .y) (near d .c-near .y-near) (near d .a-near .y-near)) tt
 
 sub-result-3 : tie.Need-sub-result-3
 sub-result-3 k =
     let d = k .before .before .before .before .before .before .before .before .before .before .before .before in
-    fit-diff (b d .y) (a d .y) (q d .y-near) (p d .y-near)
+    fit-diff (b d .y) (a d .y) (near d .b-near .y-near) (near d .a-near .y-near)
 
 -- from the last difference on
 abbrev from : tie.After-struct-told8 → tie.After-c
 from k = k .before .before .before .before .before .before .before .before .before .before .before .before .before .before .before .before
 
 sub-result-4 : tie.Need-sub-result-4
-sub-result-4 k = let d = from k in fit-diff (c d .x) (a d .x) (r d .x-near) (p d .x-near)
+sub-result-4 k = let d = from k in fit-diff (c d .x) (a d .x) (near d .c-near .x-near) (near d .a-near .x-near)
 
 mul-result-2 : tie.Need-mul-result-2
 mul-result-2 k =
     let d = from k in
-    fit-mul (diff (b d .y) (a d .y) (q d .y-near) (p d .y-near)) (diff (c d .x) (a d .x) (r d .x-near) (p d .x-near)) tt
+    fit-mul (diff (b d .y) (a d .y) (near d .b-near .y-near) (near d .a-near .y-near)) (diff (c d .x) (a d .x) (near d .c-near .x-near) (near d .a-near .x-near)) tt
 
 sub-result-5 : tie.Need-sub-result-5
 sub-result-5 k = fit-sub (one (from k)) (two (from k)) tt

@@ -6,7 +6,7 @@ use mir.Val.{toZ, ofZ}
 use Rattle.edges.specs.declared.Corner.{Corner}
 use Rattle.edges.specs.Edge.{cornerAt, slopeOf, edgeFrom}
 use Rattle.edges.specs.Span.{triBy}
-use Rattle.edges.specs.Limits.{Near}
+use Rattle.edges.specs.Limits.{AllNear}
 use Rattle.edges.proofs.Held.{small, back, shl}
 use Rattle.edges.proofs.Size.{size-slope}
 use borrow.Author.Needs.{needs}
@@ -44,14 +44,8 @@ module _ (d : tie.After-slope3) where
   abbrev c : Corner
   c = cornerAt (start .args .t1) 2
 
-  abbrev p : Near a
-  p = start .pre .a-near
-
-  abbrev q : Near b
-  q = start .pre .b-near
-
-  abbrev r : Near c
-  r = start .pre .c-near
+  abbrev near : AllNear (start .args .t1)
+  near = start .pre
 
   -- the three slopes
   major-is : toZ w64 (ofZ w64 (d .before .before .slope .result)) ≡ slopeOf a c
@@ -64,10 +58,10 @@ module _ (d : tie.After-slope3) where
   lower-is = back (d .slope3 .result) (d .slope3 .ok) ∙ d .slope3 .ensures
 
 edge-from-requires : tie.Need-edge-from-requires
-edge-from-requires k κs = (p k, rw (major-is k) (size-slope (a k) (c k) (p k) (r k)))
+edge-from-requires k κs = (near k .a-near, rw (major-is k) (size-slope (a k) (c k) (near k .a-near) (near k .c-near)))
 
 edge-from-requires-2 : tie.Need-edge-from-requires-2
-edge-from-requires-2 k κs = let d = k .before in (p d, rw (upper-is d) (size-slope (a d) (b d) (p d) (q d)))
+edge-from-requires-2 k κs = let d = k .before in (near d .a-near, rw (upper-is d) (size-slope (a d) (b d) (near d .a-near) (near d .b-near)))
 
 returns : tie.Need-returns
 unfolding triBy
@@ -79,12 +73,23 @@ returns k =
     λ i. record {
       major = m i;
       upper = u i;
-      lower = record { start = shl (small (b d .x) (q d .x-near) tt) 14 tt .read i; step = lower-is d i; base = small (b d .y) (q d .y-near) tt .read i };
-      top = small (a d .y) (p d .y-near) tt .read i;
-      mid = small (b d .y) (q d .y-near) tt .read i;
-      end = small (c d .y) (r d .y-near) tt .read i;
+      lower = record { start = shl (small (b d .x) (near d .b-near .x-near) tt) 14 tt .read i; step = lower-is d i; base = small (b d .y) (near d .b-near .y-near) tt .read i };
+      top = small (a d .y) (near d .a-near .y-near) tt .read i;
+      mid = small (b d .y) (near d .b-near .y-near) tt .read i;
+      end = small (c d .y) (near d .c-near .y-near) tt .read i;
       rightward = leZ (major-is d i) (upper-is d i);
     }
 
 pub setup-spec : {M : Type 1} → statement M
-setup-spec = tie.close (tie.spec array-copy-out-a array-copy-out-b array-copy-out-c slope-requires slope-requires-2 slope-requires-3 edge-from-requires edge-from-requires-2 returns)
+setup-spec =
+    tie.close
+    (tie.spec
+    array-copy-out-a
+    array-copy-out-b
+    array-copy-out-c
+    slope-requires
+    slope-requires-2
+    slope-requires-3
+    edge-from-requires
+    edge-from-requires-2
+    returns)
