@@ -1,2 +1,3 @@
--- What several proofs share.
+-- What several proofs share, and the laws of the rules that other crates' proofs cite.
 pub mod Fields
+pub mod Alike

@@ -1,3 +1,4 @@
--- The definitions that the contracts of `cell` cite.
+-- The definitions that the contracts of `cell` cite, and what it is for two pixels to be alike.
 pub mod Marks
 pub mod Rules
+pub mod Alike

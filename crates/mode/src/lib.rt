@@ -2,6 +2,7 @@
 // every field of the Rust's. Few of them are looked at; all of them belong to a draw.
 
 // Red, green, blue and alpha.
+#[repr(C)]
 pub struct Rgba {
     pub r: f32,
     pub g: f32,
@@ -53,6 +54,7 @@ pub struct RenderMode {
     pub cvg_x_alpha: bool,
 }
 
+#[repr(C)]
 pub struct CombinerUniform {
     pub combine_l: u32,
     pub combine_h: u32,

@@ -14,7 +14,7 @@ abbrev pub Missed : ℕ → ℕ → Type 0
 Missed zero x = Unit
 Missed (suc n) x = Missed n x × (x ≡ n → ⊥)
 
-missed-le : (n x : ℕ) → Missed n x → n ≤ x
+pub missed-le : (n x : ℕ) → Missed n x → n ≤ x
 missed-le zero x m = omega arith
 missed-le (suc n) x m = lt-of-le-ne (missed-le n x (m .0)) (λ e. m .1 (sym e))
 

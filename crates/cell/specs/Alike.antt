@@ -1,0 +1,13 @@
+-- Two pixels that differ only in what is not known. Definitions only. Source: document 00, demand 3, and document 01, "For demand 3".
+use mathlib.Core.Path.{_≡_}
+use mathlib.Core.Bool.{true}
+use Rattle.cell.specs.declared.Cell.{Cell}
+use Rattle.cell.specs.Marks.{colorMarked, coverageMarked}
+
+-- one mark byte, and the same bytes where it says that they are known
+pub record AlikeCell (x y : Cell) : Type 0 where
+  pub mark : x .mark ≡ y .mark
+  pub red : colorMarked (x .mark) ≡ true → x .red ≡ y .red
+  pub green : colorMarked (x .mark) ≡ true → x .green ≡ y .green
+  pub blue : colorMarked (x .mark) ≡ true → x .blue ≡ y .blue
+  pub coverage : coverageMarked (x .mark) ≡ true → x .coverage ≡ y .coverage

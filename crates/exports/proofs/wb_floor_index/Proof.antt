@@ -1,0 +1,19 @@
+-- `exports::wb_floor_index` meets its contract: an index is at most its cap, and fits. Assumes nothing.
+use native.Mathlib.Omega.{arith}
+use Rattle.num.specs.Whole.{floor, indexCap}
+use Rattle.num.proofs.Fourfold.{whole-le}
+use borrow.Author.Needs.{needs}
+use Rattle.exports.proofs.wb_floor_index.Statement.{statement}
+use Rattle.exports.proofs.wb_floor_index.Tie as tie
+
+floor-index-requires : tie.Need-floor-index-requires
+floor-index-requires c κs = search needs
+
+cast-result : tie.Need-cast-result
+cast-result c = omega (arith, whole-le floor indexCap (c .before .args .x))
+
+returns : tie.Need-returns
+returns c = search needs
+
+pub wb-floor-index-spec : {M : Type 1} → statement M
+wb-floor-index-spec = tie.close (tie.spec floor-index-requires cast-result returns)

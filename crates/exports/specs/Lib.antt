@@ -1,0 +1,3 @@
+-- The definitions that the contracts of `exports` cite.
+pub mod Convert
+pub mod Answers

@@ -1,0 +1,231 @@
+/*
+ * The pixel write-back port: its single-pixel layer for C.
+ *
+ * Every function is total, takes and gives plain values, keeps no state and touches no memory. What each answers is proved: the contracts stand in
+ * crates/exports/src/lib.rt, the definitions that they cite in the specs/ of the crates below it.
+ *
+ * A number that an enum lacks stands for the enum's last case.
+ */
+#ifndef WRITEBACK_H
+#define WRITEBACK_H
+
+#include <stdbool.h>
+#include <stdint.h>
+
+#ifdef __cplusplus
+extern "C" {
+#endif
+
+typedef struct {
+    float r, g, b, a;
+} wb_rgba;
+
+/* What a colour slot reads. */
+enum wb_color_in {
+    WB_COLOR_COMBINED = 0,
+    WB_COLOR_TEXEL0 = 1,
+    WB_COLOR_PRIMITIVE = 2,
+    WB_COLOR_SHADE = 3,
+    WB_COLOR_ENVIRONMENT = 4,
+    WB_COLOR_ZERO = 5,
+    WB_COLOR_ONE = 6,
+    WB_COLOR_TEXEL1 = 7,
+    WB_COLOR_KEY_CENTER = 8,
+    WB_COLOR_K4 = 9,
+    WB_COLOR_KEY_SCALE = 10,
+    WB_COLOR_COMBINED_ALPHA = 11,
+    WB_COLOR_TEXEL0_ALPHA = 12,
+    WB_COLOR_TEXEL1_ALPHA = 13,
+    WB_COLOR_PRIMITIVE_ALPHA = 14,
+    WB_COLOR_SHADE_ALPHA = 15,
+    WB_COLOR_ENV_ALPHA = 16,
+    WB_COLOR_LOD_FRACTION = 17,
+    WB_COLOR_PRIM_LOD_FRAC = 18,
+    WB_COLOR_K5 = 19,
+    WB_COLOR_NOISE = 20
+};
+
+/* What an alpha slot reads. */
+enum wb_alpha_in {
+    WB_ALPHA_COMBINED = 0,
+    WB_ALPHA_TEXEL0 = 1,
+    WB_ALPHA_PRIMITIVE = 2,
+    WB_ALPHA_SHADE = 3,
+    WB_ALPHA_ENVIRONMENT = 4,
+    WB_ALPHA_ZERO = 5,
+    WB_ALPHA_ONE = 6,
+    WB_ALPHA_TEXEL1 = 7,
+    WB_ALPHA_LOD_FRACTION = 8,
+    WB_ALPHA_PRIM_LOD_FRAC = 9
+};
+
+enum wb_blend_class { WB_REPLACE = 0, WB_BLEND_COLOR = 1, WB_ALPHA_OVER = 2, WB_DUAL_SRC = 3 };
+
+enum wb_z_mode { WB_OPA = 0, WB_INTER = 1, WB_XLU = 2, WB_DECAL = 3 };
+
+enum wb_alpha_compare { WB_COMPARE_NONE = 0, WB_COMPARE_THRESHOLD = 1, WB_COMPARE_DITHER = 2 };
+
+/* The decoded render mode. */
+typedef struct {
+    uint32_t cycle_type;
+    uint16_t blender_mux;
+    uint8_t rgb_dither;
+    uint8_t alpha_dither;
+    uint8_t cvg_dst;
+    uint8_t blend_class;    /* enum wb_blend_class */
+    uint8_t fallback_class; /* enum wb_blend_class */
+    uint8_t z_mode;         /* enum wb_z_mode */
+    uint8_t alpha_compare;  /* enum wb_alpha_compare */
+    bool key_enabled;
+    bool image_read;
+    bool antialias;
+    bool alpha_cvg_select;
+    bool color_on_coverage;
+    bool force_blend;
+    bool non_canonical_blend;
+    bool z_source_prim;
+    bool z_test;
+    bool z_write;
+    bool fog;
+    bool cvg_x_alpha;
+} wb_mode;
+
+/* The combiner uniform of a draw, 240 bytes. */
+typedef struct {
+    uint32_t combine_l;
+    uint32_t combine_h;
+    uint32_t cycle_type;
+    uint32_t tex_enable;
+    uint32_t blender_mux;
+    uint32_t force_blend;
+    uint32_t alpha_flags;
+    float alpha_threshold;
+    wb_rgba prim;
+    wb_rgba env;
+    wb_rgba blend_color;
+    wb_rgba fog_color;
+    float inv_tex_size[4];
+    float inv_tex1_size[4];
+    float lod_params[4];
+    float inv_detail_size[4];
+    uint32_t frame[4];
+    uint32_t is_rect;
+    uint32_t coverage_slot;
+    uint32_t fill_word;
+    uint32_t fill_siz;
+    uint32_t primitive_depth[4];
+    float native_scale[4];
+    uint32_t raster[4];
+} wb_uniform;
+
+/* A combiner. The selectors are ca, cb, cc, cd (enum wb_color_in), aa, ab, ac, ad (enum wb_alpha_in). */
+typedef struct {
+    uint8_t selectors[8];
+    wb_rgba prim;
+    wb_rgba env;
+    wb_rgba blend;
+    wb_rgba fog;
+    float lod;
+} wb_combiner;
+
+/* A number, 0 where the call is accepted, and the value: a coverage, 1 for yes, a word, or bytes with the first lowest. It is 0 beside any other number. */
+typedef struct {
+    uint32_t number;
+    uint32_t value;
+} wb_answer;
+
+/* Both cycles' selectors in the order of wb_combiner, and the two words that they were taken from. */
+typedef struct {
+    uint32_t raw_l;
+    uint32_t raw_h;
+    uint8_t cyc0[8];
+    uint8_t cyc1[8];
+} wb_selectors;
+
+/* A colour, if there is one, else zeros. */
+typedef struct {
+    bool some;
+    wb_rgba rgba;
+} wb_color_answer;
+
+/* A combiner, if there is one, else zeros. */
+typedef struct {
+    bool some;
+    wb_combiner combiner;
+} wb_combiner_answer;
+
+/* The number of a single-pixel call that is turned away for its arguments: a count outside 1 to 8, a coverage above 7, a width outside 1 to 1024, a siz
+ * above 3 or a pixel above 1,048,575, as far as the call takes them. */
+#define WB_REFUSED 11u
+
+/* The number of wb_strict_color where there is no word. */
+#define WB_NOTHING 1u
+
+/* ---- what a slot of a combine word names: an enum wb_color_in or wb_alpha_in. Bits above the slot's width are dropped. */
+uint32_t wb_color_a(uint32_t index);
+uint32_t wb_color_b(uint32_t index);
+uint32_t wb_color_c(uint32_t index);
+uint32_t wb_color_d(uint32_t index);
+uint32_t wb_alpha_abd(uint32_t index);
+uint32_t wb_alpha_c(uint32_t index);
+
+/* The upper word first. */
+wb_selectors wb_decode_combine(uint32_t w0, uint32_t w1);
+
+/* ---- floats to whole numbers, on every bit pattern */
+
+/* From 0.0 to 1.0; a NaN stays one. */
+float wb_clamp(float x);
+
+/* The clamped value times 255, rounded. */
+uint8_t wb_byte_of(float x);
+
+/* Four times x, rounded, halves away from zero, from -65,536 to 65,536. */
+int64_t wb_quarter(float x);
+
+/* From 0 to 131,072. */
+uint32_t wb_floor_index(float x);
+uint32_t wb_ceil_index(float x);
+
+bool wb_is_finite(float x);
+
+/* Whether a is at or before b, with -0.0 before 0.0; no for a NaN. */
+bool wb_le_total(float a, float b);
+
+/* ---- the combiner */
+wb_combiner_answer wb_combiner_new(wb_uniform uniform, wb_mode mode);
+wb_color_answer wb_combiner_color(wb_combiner combiner, wb_rgba shade);
+
+/* The word of a combiner that gives one constant colour, each channel of it empty or full, or WB_NOTHING. */
+wb_answer wb_strict_color(wb_combiner combiner);
+
+/* ---- the blender */
+
+/* The coverage that memory keeps. */
+wb_answer wb_destination(wb_mode mode, uint8_t count, uint8_t memory);
+
+/* Whether a pixel's colour can be told. The coverage is looked at only where it is known. */
+wb_answer wb_color_known(wb_mode mode, float alpha, uint8_t count, bool known, uint8_t coverage, bool memory_rgb);
+
+/* The four bytes of a pixel blended with memory. */
+wb_answer wb_blend(wb_mode mode, wb_combiner combiner, wb_rgba rgba, wb_rgba memory, float shade_alpha, uint8_t count, uint8_t coverage);
+
+/* ---- packing. rgba holds four bytes, red lowest. */
+
+/* A 16-bit word. */
+wb_answer wb_pack_color(uint32_t rgba, uint8_t coverage, uint8_t dither);
+uint32_t wb_pack_depth(float depth);
+
+/* An image is named by its fmt, siz and width, and by whether it holds depths. */
+wb_answer wb_supported(uint8_t fmt, uint8_t siz, uint32_t width, bool depth);
+wb_answer wb_pixel_bytes(uint8_t fmt, uint8_t siz, uint32_t width, bool depth);
+
+/* The two bytes of a pixel, the lower address lowest. `word` is looked at only where there is a literal; a depth image's rgba holds a float's bits. */
+wb_answer wb_encode(uint8_t fmt, uint8_t siz, uint32_t width, bool depth, uint32_t rgba, uint8_t coverage, uint32_t pixel, bool literal, uint32_t word,
+                    uint8_t rgb_dither, bool big_endian);
+
+#ifdef __cplusplus
+}
+#endif
+
+#endif
