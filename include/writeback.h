@@ -1,8 +1,8 @@
 /*
- * The pixel write-back port: its single-pixel layer for C.
+ * The pixel write-back port for C: its single-pixel layer, and a draw pixel by pixel.
  *
- * Every function is total, takes and gives plain values, keeps no state and touches no memory. What each answers is proved: the contracts stand in
- * crates/exports/src/lib.rt, the definitions that they cite in the specs/ of the crates below it.
+ * Every function is total, keeps no state and writes no memory; it takes and gives plain values, but for the lists of a draw, which it only reads. What each
+ * answers is proved: the contracts stand in crates/exports/src, the definitions that they cite in the specs/ of the crates below it.
  *
  * A number that an enum lacks stands for the enum's last case.
  */
@@ -10,6 +10,7 @@
 #define WRITEBACK_H
 
 #include <stdbool.h>
+#include <stddef.h>
 #include <stdint.h>
 
 #ifdef __cplusplus
@@ -154,6 +155,21 @@ typedef struct {
     wb_combiner combiner;
 } wb_combiner_answer;
 
+enum wb_geometry_kind { WB_NO_GEOMETRY = 0, WB_TRIANGLES = 1, WB_RECTANGLE = 2 };
+
+/* What a draw covers. The sides are looked at only of a rectangle, and a kind above 2 is no geometry. */
+typedef struct {
+    uint32_t kind; /* enum wb_geometry_kind */
+    float left, top, right, bottom;
+} wb_geometry;
+
+/* What a pixel emits: the mask of its eight samples, its combined colour and its shade alpha. A mask of 0 is nothing, with zeros beside it. */
+typedef struct {
+    uint32_t mask;
+    wb_rgba rgba;
+    float shade_alpha;
+} wb_fragment;
+
 /* The number of a single-pixel call that is turned away for its arguments: a count outside 1 to 8, a coverage above 7, a width outside 1 to 1024, a siz
  * above 3 or a pixel above 1,048,575, as far as the call takes them. */
 #define WB_REFUSED 11u
@@ -223,6 +239,42 @@ wb_answer wb_pixel_bytes(uint8_t fmt, uint8_t siz, uint32_t width, bool depth);
 /* The two bytes of a pixel, the lower address lowest. `word` is looked at only where there is a literal; a depth image's rgba holds a float's bits. */
 wb_answer wb_encode(uint8_t fmt, uint8_t siz, uint32_t width, bool depth, uint32_t rgba, uint8_t coverage, uint32_t pixel, bool literal, uint32_t word,
                     uint8_t rgb_dither, bool big_endian);
+
+/* ---- a draw. A list is given by where it starts and how many elements it has: six floats for each vertex, x, y, red, green, blue and alpha; a byte for each
+ * vertex, 1 where it is present; and three indices for each triangle. */
+
+/* Whether a vertex may stand here. */
+bool wb_in_range(float x, float y);
+
+/* Whether every triangle passes its checks. A rectangle always does, and no geometry never. */
+bool wb_admitted(wb_combiner combiner, wb_geometry geometry, const float *vertices, size_t vertices_len, const uint8_t *present, size_t present_len,
+                 const uint32_t *indices, size_t indices_len);
+
+/* What pixel (x, y) of triangle i emits, or of the rectangle, whose i is not looked at. It is nothing where x or y is 1024 or more, where there is no such
+ * triangle, or where one of its vertices is missing or out of range. */
+wb_fragment wb_pixel(wb_mode mode, wb_combiner combiner, bool cull, wb_geometry geometry, const float *vertices, size_t vertices_len,
+                     const uint8_t *present, size_t present_len, const uint32_t *indices, size_t indices_len, size_t i, uint32_t y, uint32_t x);
+
+/* ---- the frame: width * height pixels in three lists, three colour bytes, one coverage and one mark for each. Mark 1 says that a colour is known, mark 2 that a
+ * coverage is. A list is lent for the call. */
+
+typedef struct {
+    uint32_t left, top, width, height;
+} wb_scissor;
+
+typedef struct {
+    uint32_t number; /* 0, or why the draw was turned away: 1 to 7 */
+    uint64_t pixels; /* the pixels emitted, counted with repeats */
+} wb_drawn;
+
+/* Draws every triangle, or the rectangle. Turned away, it changes nothing. */
+wb_drawn wb_draw(uint32_t width, uint32_t height, uint8_t *colors, size_t colors_len, uint8_t *coverages, size_t coverages_len, uint8_t *marks, size_t marks_len,
+                 wb_mode mode, wb_uniform uniform, bool cull, wb_scissor scissor, wb_geometry geometry, const float *vertices, size_t vertices_len,
+                 const uint8_t *present, size_t present_len, const uint32_t *indices, size_t indices_len);
+
+/* The two bytes of a pixel's word, the first lowest, or why the read was turned away: 1 to 3 and 8 to 10. */
+wb_answer wb_read_word(uint32_t width, uint32_t height, const uint8_t *colors, size_t colors_len, const uint8_t *coverages, size_t coverages_len,
+                       const uint8_t *marks, size_t marks_len, size_t pixel, uint8_t fmt, uint8_t siz, uint8_t rgb_dither, bool big_endian);
 
 #ifdef __cplusplus
 }

@@ -6,6 +6,7 @@ use crate::render::CombinerUniform;
 
 /// The fields of a `Combiner`, which are private to its file: so any selectors can be tried, also those that
 /// `Combiner::new` refuses.
+#[derive(Clone)]
 pub struct Parts {
     pub selectors: CycleSel,
     pub prim: [f32; 4],
@@ -83,4 +84,66 @@ pub fn blend(
         count,
         coverage,
     )
+}
+
+/// A draw and its vertices, whose own types end at their crate.
+pub struct Shape {
+    draw: CoverageDraw,
+    vertices: Vec<Option<Vertex>>,
+}
+
+/// `CoverageGeometry`.
+pub enum Geometry {
+    Unknown,
+    Triangles(Vec<[u32; 3]>),
+    Rectangle([f32; 4]),
+}
+
+impl Shape {
+    /// A vertex is x, y, red, green, blue, alpha, or missing. The scissor is left, top, width, height.
+    pub fn new(
+        parts: Parts,
+        mode: RenderMode,
+        cull: bool,
+        scissor: (u32, u32, u32, u32),
+        geometry: Geometry,
+        vertices: impl Iterator<Item = Option<[f32; 6]>>,
+    ) -> Self {
+        let geometry = match geometry {
+            Geometry::Unknown => CoverageGeometry::Unknown,
+            Geometry::Triangles(triangles) => CoverageGeometry::Triangles(triangles),
+            Geometry::Rectangle(sides) => CoverageGeometry::Rectangle(sides),
+        };
+        let vertex = |[x, y, r, g, b, a]: [f32; 6]| Vertex {
+            position: [x, y],
+            color: [r, g, b, a],
+        };
+        Shape {
+            draw: CoverageDraw {
+                literal: None,
+                combiner: Some(parts.whole()),
+                cull,
+                mode: Some(mode),
+                geometry,
+                scissor,
+            },
+            vertices: vertices.map(|floats| floats.map(vertex)).collect(),
+        }
+    }
+
+    pub fn admitted(&self) -> bool {
+        super::admitted(&self.draw, &self.vertices)
+    }
+
+    pub fn rasterize(&self, extent: (usize, usize), pixel: impl FnMut(usize, u8, [f32; 4], f32)) {
+        super::rasterize(&self.draw, &self.vertices, extent, pixel);
+    }
+}
+
+pub fn in_range(position: [f32; 2]) -> bool {
+    Vertex {
+        position,
+        color: [0.0; 4],
+    }
+    .in_range()
 }

@@ -1,6 +1,7 @@
 //! Runs one call's comparison on two threads.
 
 use crate::inputs::Inputs;
+use std::iter::Sum;
 
 /// How many calls were compared, or the first difference.
 pub type Outcome = Result<u64, String>;
@@ -38,8 +39,11 @@ impl Part {
     }
 }
 
+/// A line to be printed: a call's name, and what was counted of it.
+pub type Line = (&'static str, Vec<(String, u64)>);
+
 /// The outcome of all parts together.
-pub fn run(seed: u64, scale: f64, comparison: fn(&Part) -> Outcome) -> Outcome {
+pub fn run<T: Sum + Send>(seed: u64, scale: f64, comparison: fn(&Part) -> Result<T, String>) -> Result<T, String> {
     std::thread::scope(|scope| {
         let parts: Vec<_> =
             (0..PARTS).map(|index| scope.spawn(move || comparison(&Part { index, seed, scale }))).collect();

@@ -75,7 +75,7 @@ fn with_flags(mode: Mode, bits: u32) -> Mode {
 }
 
 /// The uniform with words whose second cycle has a colour. One pair in nine has.
-fn usable(inputs: &mut Inputs, uniform: Uniform) -> Uniform {
+pub fn usable(inputs: &mut Inputs, uniform: Uniform) -> Uniform {
     loop {
         let (combine_l, combine_h) = (inputs.word(), inputs.word());
         let [ca, cb, cc, cd, alphas @ ..] = decode_combine(combine_l, combine_h).cyc1;

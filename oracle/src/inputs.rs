@@ -99,7 +99,7 @@ impl Inputs {
     // Floats
 
     /// From 0.0 up to, not including, 1.0.
-    fn unit(&mut self) -> f32 {
+    pub fn unit(&mut self) -> f32 {
         self.below(1 << 24) as f32 / 16_777_216.0
     }
 

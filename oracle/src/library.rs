@@ -1,5 +1,6 @@
 //! The port's C interface (crate `exports`): its structs, its functions, and a safe function for each.
 
+use crate::draws::{Draw, Frame, Read, Shape};
 use crate::words::{Sheet, Words};
 
 /// A struct of the interface, and its fields as words.
@@ -102,6 +103,26 @@ c_struct! {
     Answer { number: u32, value: u32, }
 }
 
+c_struct! {
+    /// In pixels.
+    Scissor { left: u32, top: u32, width: u32, height: u32, }
+}
+
+c_struct! {
+    /// Kind 0 is nothing, 1 triangles, 2 a rectangle. The sides are a rectangle's.
+    Geometry { kind: u32, left: f32, top: f32, right: f32, bottom: f32, }
+}
+
+c_struct! {
+    /// Document 01's number, and how many pixels were emitted.
+    DrawAnswer { number: u32, pixels: u64, }
+}
+
+c_struct! {
+    /// What a pixel emits. Where the mask is 0 it emits nothing, and the rest is no part of the answer.
+    FragmentAnswer { mask: u32, rgba: Rgba, shade_alpha: f32, }
+}
+
 c_struct! { Selectors { raw_l: u32, raw_h: u32, cyc0: [u8; 8], cyc1: [u8; 8], } }
 
 /// A struct of the interface for an `Option`. What stands beside `some: false` is no part of the answer, and its words
@@ -111,8 +132,8 @@ macro_rules! c_option {
         #[repr(C)]
         #[derive(Clone, Copy, Debug)]
         pub struct $name {
-            some: bool,
-            $field: $kind,
+            pub some: bool,
+            pub $field: $kind,
         }
 
         impl From<Option<$kind>> for $name {
@@ -156,6 +177,7 @@ macro_rules! interface {
             CeilIndex ceil_index = wb_ceil_index(x: f32) -> u32;
             IsFinite is_finite = wb_is_finite(x: f32) -> bool;
             LeTotal le_total = wb_le_total(a: f32, b: f32) -> bool;
+            InRange in_range = wb_in_range(x: f32, y: f32) -> bool;
             CombinerNew combiner_new = wb_combiner_new(uniform: Uniform, mode: Mode) -> CombinerAnswer;
             CombinerColor combiner_color = wb_combiner_color(combiner: Combiner, shade: Rgba) -> ColorAnswer;
             StrictColor strict_color = wb_strict_color(combiner: Combiner) -> Answer;
@@ -198,3 +220,140 @@ macro_rules! functions {
 }
 
 interface! { functions }
+
+// The functions that take slices: each as a pointer and a length.
+
+type Floats = *const f32;
+type Bytes = *const u8;
+type BytesMut = *mut u8;
+type Indices = *const u32;
+
+extern "C" {
+    fn wb_admitted(
+        combiner: Combiner,
+        geometry: Geometry,
+        vertices: Floats,
+        vertices_len: usize,
+        present: Bytes,
+        present_len: usize,
+        indices: Indices,
+        indices_len: usize,
+    ) -> bool;
+
+    fn wb_pixel(
+        mode: Mode,
+        combiner: Combiner,
+        cull: bool,
+        geometry: Geometry,
+        vertices: Floats,
+        vertices_len: usize,
+        present: Bytes,
+        present_len: usize,
+        indices: Indices,
+        indices_len: usize,
+        i: usize,
+        y: u32,
+        x: u32,
+    ) -> FragmentAnswer;
+
+    fn wb_draw(
+        width: u32,
+        height: u32,
+        colors: BytesMut,
+        colors_len: usize,
+        coverages: BytesMut,
+        coverages_len: usize,
+        marks: BytesMut,
+        marks_len: usize,
+        mode: Mode,
+        uniform: Uniform,
+        cull: bool,
+        scissor: Scissor,
+        geometry: Geometry,
+        vertices: Floats,
+        vertices_len: usize,
+        present: Bytes,
+        present_len: usize,
+        indices: Indices,
+        indices_len: usize,
+    ) -> DrawAnswer;
+
+    fn wb_read_word(
+        width: u32,
+        height: u32,
+        colors: Bytes,
+        colors_len: usize,
+        coverages: Bytes,
+        coverages_len: usize,
+        marks: Bytes,
+        marks_len: usize,
+        pixel: usize,
+        fmt: u8,
+        siz: u8,
+        rgb_dither: u8,
+        big_endian: bool,
+    ) -> Answer;
+}
+
+/// A call: the arguments before the shape's lists, the shape, and the arguments behind them.
+// SAFETY: the library's functions are total; each pointer and length is that of a slice that is lent for the call, and
+// what is lent to be written is lent to nobody else.
+macro_rules! with_lists {
+    ($symbol:ident($($before:expr),*; $shape:expr; $($behind:expr),*)) => {
+        unsafe {
+            $symbol(
+                $($before,)*
+                $shape.vertices.as_ptr(),
+                $shape.vertices.len(),
+                $shape.present.as_ptr(),
+                $shape.present.len(),
+                $shape.indices.as_ptr(),
+                $shape.indices.len(),
+                $($behind,)*
+            )
+        }
+    };
+}
+
+pub fn admitted(combiner: Combiner, shape: &Shape) -> bool {
+    with_lists! { wb_admitted(combiner, shape.geometry; shape;) }
+}
+
+pub fn pixel(mode: Mode, combiner: Combiner, shape: &Shape, i: usize, y: u32, x: u32) -> FragmentAnswer {
+    with_lists! { wb_pixel(mode, combiner, shape.cull, shape.geometry; shape; i, y, x) }
+}
+
+pub fn draw(frame: &mut Frame, draw: &Draw) -> DrawAnswer {
+    let Frame { width, height, colors, coverages, marks } = frame;
+    let shape = &draw.shape;
+    with_lists! {
+        wb_draw(
+            *width, *height,
+            colors.as_mut_ptr(), colors.len(), coverages.as_mut_ptr(), coverages.len(), marks.as_mut_ptr(), marks.len(),
+            draw.mode, draw.uniform, shape.cull, shape.scissor, shape.geometry;
+            shape;
+        )
+    }
+}
+
+pub fn read_word(frame: &Frame, read: &Read) -> Answer {
+    let Frame { width, height, colors, coverages, marks } = frame;
+    // SAFETY: as above.
+    unsafe {
+        wb_read_word(
+            *width,
+            *height,
+            colors.as_ptr(),
+            colors.len(),
+            coverages.as_ptr(),
+            coverages.len(),
+            marks.as_ptr(),
+            marks.len(),
+            read.pixel,
+            read.fmt,
+            read.siz,
+            read.rgb_dither,
+            read.big_endian,
+        )
+    }
+}

@@ -1,28 +1,39 @@
 //! Compares the port's library with the Rust original, call by call, on many and hostile inputs.
 //!
-//!     oracle [SCALE [SEED]]      compare; SCALE multiplies the tries at random
-//!     oracle record [SEED]       write a sample of the original's answers
+//!     oracle [SCALE [SEED [NAME]]]   compare; SCALE multiplies the tries at random; NAME compares that call alone
+//!     oracle record [SEED]           write a sample of the original's answers
+//!     oracle record-lists [SEED]     write a sample of lists of draws and word reads
 #![deny(unsafe_code)]
 
 mod calls;
 mod compare;
 mod compare_combiner;
+mod compare_frame;
 mod compare_numbers;
 mod compare_pack;
 mod compare_pixel;
+mod compare_raster;
 mod compare_selectors;
+mod draws;
+mod frame;
 mod inputs;
 #[allow(unsafe_code)]
 mod library;
+mod lists;
 #[cfg(feature = "mock")]
 #[allow(unsafe_code)]
 mod mock;
+#[cfg(feature = "mock")]
+#[allow(unsafe_code)]
+mod mock_draw;
 mod record;
+mod record_lists;
 mod rust;
+mod shapes;
 mod words;
 
 use calls::*;
-use compare::{run, Outcome, Part};
+use compare::{run, Line, Outcome, Part};
 use compare_numbers::one_float;
 use compare_selectors::table;
 use std::process::ExitCode;
@@ -35,7 +46,7 @@ const SEED: u64 = 0x0064_0064;
 type Comparison = fn(&Part) -> Outcome;
 
 /// Every call, from bottom to top.
-const COMPARISONS: [(&str, Comparison); 25] = [
+const COMPARISONS: [(&str, Comparison); 26] = [
     (ColorA::NAME, |part| table(part, |index| ColorA { index })),
     (ColorB::NAME, |part| table(part, |index| ColorB { index })),
     (ColorC::NAME, |part| table(part, |index| ColorC { index })),
@@ -61,6 +72,15 @@ const COMPARISONS: [(&str, Comparison); 25] = [
     (Supported::NAME, compare_pack::supported),
     (PixelBytes::NAME, compare_pack::pixel_bytes),
     (Encode::NAME, compare_pack::encode),
+    (InRange::NAME, compare_raster::in_range),
+];
+
+/// What is compared in draws and lists of them, with lines of its own.
+type Counted = fn(u64, f64) -> Result<Vec<Line>, String>;
+
+const COUNTED: [(&str, Counted); 2] = [
+    ("rasterize", |seed, scale| Ok(run(seed, scale, compare_raster::rasterize)?.lines())),
+    ("draw", |seed, scale| Ok(run(seed, scale, compare_frame::lists)?.lines())),
 ];
 
 /// With a comma before every three digits.
@@ -72,42 +92,63 @@ fn grouped(number: u64) -> String {
     }
 }
 
-fn compare_all(scale: f64, seed: u64) -> ExitCode {
+fn line((name, counts): &Line) -> String {
+    let counts: Vec<String> = counts.iter().map(|(what, number)| format!("{} {what}", grouped(*number))).collect();
+    format!("{name}: {}", counts.join(", "))
+}
+
+fn compare_all(scale: f64, seed: u64, only: Option<&String>) -> Result<(), String> {
     println!("seed {seed:x}, scale {scale}");
-    for (name, comparison) in COMPARISONS {
-        match run(seed, scale, comparison) {
-            Ok(compared) => println!("{name}: {} compared", grouped(compared)),
-            Err(difference) => {
-                println!("{difference}");
-                return ExitCode::FAILURE;
-            }
-        }
+    let wanted = |name: &str| only.is_none_or(|only| only == name);
+    for (name, comparison) in COMPARISONS.into_iter().filter(|(name, _)| wanted(name)) {
+        let compared = run(seed, scale, comparison)?;
+        println!("{name}: {} compared", grouped(compared));
     }
-    ExitCode::SUCCESS
+    for (_, comparison) in COUNTED.into_iter().filter(|(name, _)| wanted(name)) {
+        comparison(seed, scale)?.iter().for_each(|counts| println!("{}", line(counts)));
+    }
+    Ok(())
 }
 
 fn usage() -> ExitCode {
-    eprintln!("oracle [SCALE [SEED]] | oracle record [SEED]   (the seed in hexadecimal)");
+    eprintln!(
+        "oracle [SCALE [SEED [NAME]]] | oracle record [SEED] | oracle record-lists [SEED]   (seeds in hexadecimal)"
+    );
     ExitCode::from(2)
+}
+
+fn print(lines: Vec<String>) -> ExitCode {
+    lines.iter().for_each(|line| println!("{line}"));
+    ExitCode::SUCCESS
+}
+
+fn compare_words(words: &[String], seed: u64) -> ExitCode {
+    let scale = match words.first() {
+        Some(word) => word.parse::<f64>().ok().filter(|scale| *scale > 0.0),
+        None => Some(1.0),
+    };
+    let Some(scale) = scale else {
+        return usage();
+    };
+    match compare_all(scale, seed, words.get(2)) {
+        Ok(()) => ExitCode::SUCCESS,
+        Err(difference) => {
+            println!("{difference}");
+            ExitCode::FAILURE
+        }
+    }
 }
 
 fn main() -> ExitCode {
     let words: Vec<String> = std::env::args().skip(1).collect();
-    let seed = |word: Option<&String>| match word {
+    let seed = match words.get(1) {
         Some(word) => u64::from_str_radix(word, 16).ok(),
         None => Some(SEED),
     };
-    let record = words.first().is_some_and(|word| word == "record");
-    let scale = match words.first() {
-        Some(word) if !record => word.parse::<f64>().ok().filter(|scale| *scale > 0.0),
-        _ => Some(1.0),
-    };
-    match (scale, seed(words.get(1))) {
-        (Some(scale), Some(seed)) if words.len() <= 2 && !record => compare_all(scale, seed),
-        (Some(_), Some(seed)) if words.len() <= 2 => {
-            record::lines(seed).iter().for_each(|line| println!("{line}"));
-            ExitCode::SUCCESS
-        }
+    match (words.first().map(String::as_str), seed) {
+        (Some("record"), Some(seed)) if words.len() <= 2 => print(record::lines(seed)),
+        (Some("record-lists"), Some(seed)) if words.len() <= 2 => print(record_lists::lines(seed)),
+        (_, Some(seed)) if words.len() <= 3 => compare_words(&words, seed),
         _ => usage(),
     }
 }

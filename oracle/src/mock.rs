@@ -142,7 +142,7 @@ pub extern "C" fn wb_le_total(a: f32, b: f32) -> bool {
 
 // The combiner
 
-fn channels(color: Rgba) -> [f32; 4] {
+pub fn channels(color: Rgba) -> [f32; 4] {
     [color.r, color.g, color.b, color.a]
 }
 
@@ -180,7 +180,7 @@ fn channel(inputs: [Option<f32>; 4]) -> Option<f32> {
     Some(wb_clamp(product + d?))
 }
 
-fn color(combiner: &Combiner, shade: Rgba) -> Option<Rgba> {
+pub fn color(combiner: &Combiner, shade: Rgba) -> Option<Rgba> {
     let [ca, cb, cc, cd, alphas @ ..] = combiner.selectors;
     let of = |i| channel([ca, cb, cc, cd].map(|number| colour_input(number, combiner, shade, i)));
     Some(Rgba {
@@ -191,7 +191,7 @@ fn color(combiner: &Combiner, shade: Rgba) -> Option<Rgba> {
     })
 }
 
-const WHITE: Rgba = Rgba { r: 1.0, g: 1.0, b: 1.0, a: 1.0 };
+pub const WHITE: Rgba = Rgba { r: 1.0, g: 1.0, b: 1.0, a: 1.0 };
 
 #[no_mangle]
 pub extern "C" fn wb_combiner_new(uniform: Uniform, mode: Mode) -> CombinerAnswer {
@@ -261,11 +261,11 @@ pub extern "C" fn wb_destination(mode: Mode, count: u8, memory: u8) -> Answer {
 }
 
 /// Two bits of the mux.
-fn selector(mode: Mode, low: u16) -> u16 {
+pub fn selector(mode: Mode, low: u16) -> u16 {
     mode.blender_mux >> low & 3
 }
 
-fn opaque(mode: Mode, alpha: f32) -> bool {
+pub fn opaque(mode: Mode, alpha: f32) -> bool {
     selector(mode, 10) == 0 && selector(mode, 2) == 0 && alpha >= 1.0
 }
 
@@ -372,7 +372,7 @@ pub extern "C" fn wb_pack_depth(depth: f32) -> u32 {
     ((depth - first) >> shift) * 4 + exponent as u32 * 8192
 }
 
-fn is_supported(fmt: u8, siz: u8, depth: bool) -> bool {
+pub fn is_supported(fmt: u8, siz: u8, depth: bool) -> bool {
     depth || (fmt == 0 && siz == 2) || ((2..=4).contains(&fmt) && siz == 1)
 }
 

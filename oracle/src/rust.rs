@@ -4,6 +4,7 @@
 //! is asked only within its domain. The roundings are expressions in the original and no functions: they stand here as
 //! they stand there, cut off where the interface cuts them off.
 
+use crate::draws::Shape;
 use crate::library::{Answer, ColorAnswer, Combiner, CombinerAnswer, Mode, Rgba, Selectors, Uniform};
 use original::combiner::{AlphaIn, ColorIn, CycleSel};
 use original::writeback::{self, Parts};
@@ -76,7 +77,7 @@ fn floats(color: Rgba) -> [f32; 4] {
     [color.r, color.g, color.b, color.a]
 }
 
-fn rgba([r, g, b, a]: [f32; 4]) -> Rgba {
+pub fn rgba([r, g, b, a]: [f32; 4]) -> Rgba {
     Rgba { r, g, b, a }
 }
 
@@ -110,7 +111,7 @@ fn numbers(cycle: &CycleSel) -> [u8; 8] {
     ]
 }
 
-fn parts(combiner: Combiner) -> Parts {
+pub fn parts(combiner: Combiner) -> Parts {
     Parts {
         selectors: cycle(combiner.selectors),
         prim: floats(combiner.prim),
@@ -132,7 +133,7 @@ fn combiner(parts: Parts) -> Combiner {
     }
 }
 
-fn render_mode(mode: Mode) -> RenderMode {
+pub fn render_mode(mode: Mode) -> RenderMode {
     RenderMode {
         cycle_type: mode.cycle_type,
         rgb_dither: mode.rgb_dither,
@@ -158,7 +159,7 @@ fn render_mode(mode: Mode) -> RenderMode {
     }
 }
 
-fn combiner_uniform(uniform: Uniform) -> CombinerUniform {
+pub fn combiner_uniform(uniform: Uniform) -> CombinerUniform {
     CombinerUniform {
         combine_l: uniform.combine_l,
         combine_h: uniform.combine_h,
@@ -185,6 +186,20 @@ fn combiner_uniform(uniform: Uniform) -> CombinerUniform {
         native_scale: uniform.native_scale,
         raster: uniform.raster,
     }
+}
+
+/// Every third index opens a triangle, and a vertex whose flag is not 1 is missing.
+pub fn shape(mode: Mode, parts: Parts, shape: &Shape) -> writeback::Shape {
+    let Shape { cull, scissor, geometry, vertices, present, indices } = shape;
+    let scissor = (scissor.left, scissor.top, scissor.width, scissor.height);
+    let geometry = match geometry.kind {
+        0 => writeback::Geometry::Unknown,
+        1 => writeback::Geometry::Triangles(indices.chunks_exact(3).map(|i| [i[0], i[1], i[2]]).collect()),
+        _ => writeback::Geometry::Rectangle([geometry.left, geometry.top, geometry.right, geometry.bottom]),
+    };
+    let floats = vertices.chunks_exact(6).map(|v| [v[0], v[1], v[2], v[3], v[4], v[5]]);
+    let vertices = floats.zip(present).map(|(floats, flag)| (*flag == 1).then_some(floats));
+    writeback::Shape::new(parts, render_mode(mode), *cull, scissor, geometry, vertices)
 }
 
 // Number 11.
@@ -281,6 +296,10 @@ pub fn le_total(a: f32, b: f32) -> bool {
 }
 
 // writeback.rs
+
+pub fn in_range(x: f32, y: f32) -> bool {
+    writeback::in_range([x, y])
+}
 
 pub fn combiner_new(uniform: Uniform, mode: Mode) -> CombinerAnswer {
     writeback::combiner_new(&combiner_uniform(uniform), render_mode(mode)).map(combiner).into()

@@ -33,6 +33,17 @@ macro_rules! whole_numbers {
 // An i64 here is a quarter-unit position, which 32 bits hold.
 whole_numbers! { bool u8 u16 u32 i64 }
 
+/// The upper half first.
+impl Words for u64 {
+    fn words(&self, sheet: &mut Sheet) {
+        sheet.words.extend([(*self >> 32) as u32, *self as u32]);
+    }
+
+    fn alike(&self, other: &Self) -> bool {
+        self == other
+    }
+}
+
 impl Words for f32 {
     fn words(&self, sheet: &mut Sheet) {
         let plain = sheet.one_nan && self.is_nan();
@@ -52,6 +63,17 @@ impl<T: Words, const N: usize> Words for [T; N] {
 
     fn alike(&self, other: &Self) -> bool {
         self.iter().zip(other).all(|(a, b)| a.alike(b))
+    }
+}
+
+/// The elements alone, without their number.
+impl<T: Words> Words for Vec<T> {
+    fn words(&self, sheet: &mut Sheet) {
+        self.iter().for_each(|value| value.words(sheet));
+    }
+
+    fn alike(&self, other: &Self) -> bool {
+        self.len() == other.len() && self.iter().zip(other).all(|(a, b)| a.alike(b))
     }
 }
 

@@ -1,4 +1,4 @@
-// The C interface of the single-pixel layer. Each function takes plain values, is total, and answers by a struct: it brings its arguments into the
+// The C interface. Each function takes plain values, is total, and answers by a struct: it brings its arguments into the
 // library's types, calls the library's function, and brings the answer back. include/writeback.h declares the same for C.
 ghost use mathlib.Core.Path.{_≡_};
 ghost use Rattle.num.specs.Color.{clamped, isFinite, totalLe};
@@ -37,6 +37,9 @@ use selectors::AlphaIn;
 use selectors::ColorIn;
 use selectors::CombinerSelectors;
 use selectors::CycleSel;
+
+mod draws; // a draw's pixels
+mod frames; // a draw and a word read
 
 // RenderMode, its enums by their numbers in the order of their declarations. A number that an enum lacks stands for its last case: a class above 3 is
 // DualSrc, a z mode above 3 Decal, an alpha_compare above 2 Dither.

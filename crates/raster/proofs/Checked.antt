@@ -20,7 +20,7 @@ use Rattle.edges.specs.Limits.{Near, AllNear}
 use Rattle.raster.specs.declared.Three.{Three}
 use Rattle.raster.specs.declared.Three.the-variants.{Vertices, Absent}
 use Rattle.raster.specs.declared.Geometry.the-variants.{Triangles}
-use Rattle.raster.specs.Admitted.{triangleAt, checkOf, checkThree, failing, all, admittedOf}
+use Rattle.raster.specs.Admitted.{triangleAt, any, checkOf, checkThree, failing, all, admittedOf}
 use Rattle.raster.specs.Emitted.{cornerOf}
 
 -- triangle i has no failing check
@@ -84,13 +84,16 @@ neither : (s t : Bool) → s || t ≡ false → (s ≡ false) × (t ≡ false)
 neither true t h = absurd (true≢false h)
 neither false t h = (refl, h)
 
+pub placed : (a b c : Vertex) → any (λ (v : Vertex). not (inRange v)) a b c ≡ false → AllIn (Vertices a b c)
+placed a b c h =
+    let p = neither (not (inRange a) || not (inRange b)) (not (inRange c)) h in
+    let q = neither (not (inRange a)) (not (inRange b)) (p .0) in
+    (not-false (inRange a) (q .0), (not-false (inRange b) (q .1), (not-false (inRange c) (p .1), tt)))
+
 all-in : (k : Combiner) (t : Three) → checkThree k t ≡ 0 → AllIn t
 unfolding checkOf
 all-in k Absent h = absurd (omega arith)
-all-in k (Vertices a b c) h =
-    let p = neither (not (inRange a) || not (inRange b)) (not (inRange c)) (not-chosen _ _ h) in
-    let q = neither (not (inRange a)) (not (inRange b)) (p .0) in
-    (not-false (inRange a) (q .0), (not-false (inRange b) (q .1), (not-false (inRange c) (p .1), tt)))
+all-in k (Vertices a b c) h = placed a b c (not-chosen _ _ h)
 
 pub sound-in : (k : Combiner) (vs : List Float) (ps is : List ℕ) (i : ℕ) → failing k vs ps is i ≡ 0 → AllIn (triangleAt vs ps is i)
 unfolding failing

@@ -22,6 +22,7 @@ use selectors::CycleSel;
 use vertex::Vertex;
 
 // In pixels.
+#[repr(C)]
 pub struct Scissor {
     pub left: u32,
     pub top: u32,
@@ -188,7 +189,7 @@ fn alpha_differs(alpha: f32, color: Color) -> bool
 }
 
 // Check 2.
-fn out_of_range(a: Vertex, b: Vertex, c: Vertex) -> bool
+pub fn out_of_range(a: Vertex, b: Vertex, c: Vertex) -> bool
     ensures { λ r. ⌜ r ≡ any (λ v. not (inRange v)) a b c ⌝ }
 {
     if !a.in_range() {

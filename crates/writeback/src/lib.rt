@@ -54,3 +54,9 @@ pub use raster::Geometry;
 pub use raster::Scissor;
 pub use raster::admitted;
 pub use vertex::Vertex;
+
+// The frame.
+pub use frame::draw;
+pub use frame::read_word;
+pub use frame::Drawn;
+pub use frame::Word;

@@ -1,0 +1,14 @@
+-- A draw's and a word read's answer as C has it. Definitions only.
+use Prim.Native.Nat.{ℕ}
+use Rattle.frame.specs.Draw.{DrawAnswer}
+use Rattle.frame.specs.Read.{WordAnswer}
+use Rattle.exports.specs.declared.Answer.{Answer}
+use Rattle.exports.specs.declared.frames.DrawnAnswer.{DrawnAnswer}
+use Rattle.exports.specs.Answers.{twoBytes}
+
+abbrev pub drawnAnswer : DrawAnswer → DrawnAnswer
+drawnAnswer a = record { number = a .number; pixels = a .pixels }
+
+-- the two bytes, the first lowest
+abbrev pub wordAnswer : WordAnswer → Answer
+wordAnswer a = record { number = a .number; value = twoBytes (a .word) }

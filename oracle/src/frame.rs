@@ -1,0 +1,241 @@
+//! The frame of document 01 over the original's functions: numbers 1 to 10, F1 to F5 and the word read. The frame is ours,
+//! so this is a second writing of the document, and not of the port.
+
+use crate::draws::{Draw, Frame, Read, Shape};
+use crate::library::{Answer, DrawAnswer};
+use crate::rust;
+use original::writeback::{self, Parts};
+use original::{coherence, FramebufferEncoding, RenderMode};
+
+/// What F1 and F2 make of a pixel.
+pub const NO: usize = 0;
+pub const DOUBT: usize = 1;
+pub const YES: usize = 2;
+
+/// How often a pixel went each way. The first index says whether the coverage was marked.
+#[derive(Clone, Default)]
+pub struct Branches {
+    /// F1 to F4: NO, DOUBT or YES.
+    pub colors: [[u64; 3]; 2],
+    /// F5: cvg_dst 0 to 3, then the ones above.
+    pub destinations: [[u64; 5]; 2],
+    /// F5: an unmarked coverage that became marked, and one that did not.
+    pub marked: u64,
+    pub left: u64,
+    /// F3: pixels that take a marked colour in, and pixels blended because of their marked coverage.
+    pub memory_colors: u64,
+    pub divided: u64,
+}
+
+fn known_color(mark: u8) -> bool {
+    mark == 1 || mark == 3
+}
+
+fn known_coverage(mark: u8) -> bool {
+    mark == 2 || mark == 3
+}
+
+/// Numbers 1 to 3, or 0.
+fn frame_number(frame: &Frame) -> u32 {
+    let Frame { width, height, colors, coverages, marks } = frame;
+    if ![width, height].into_iter().all(|side| (1..=1024).contains(side)) {
+        return 1;
+    }
+    let n = (width * height) as usize;
+    if (colors.len(), coverages.len(), marks.len()) != (3 * n, n, n) {
+        return 2;
+    }
+    let wrong = |(mark, coverage): (&u8, &u8)| *mark > 3 || (known_coverage(*mark) && *coverage > 7);
+    if marks.iter().zip(coverages).any(wrong) {
+        return 3;
+    }
+    0
+}
+
+/// Numbers 4 and 5, or 0.
+fn shape_number(shape: &Shape) -> u32 {
+    let Shape { scissor, vertices, present, indices, .. } = shape;
+    if [scissor.left, scissor.top, scissor.width, scissor.height].iter().any(|number| *number > 65_535) {
+        return 4;
+    }
+    let count = present.len();
+    let lists = count <= 4096
+        && vertices.len() == 6 * count
+        && present.iter().all(|flag| *flag <= 1)
+        && indices.len() % 3 == 0
+        && indices.len() <= 12_288;
+    if lists {
+        0
+    } else {
+        5
+    }
+}
+
+/// What every pixel of a draw shares.
+struct Pen<'a> {
+    mode: RenderMode,
+    parts: &'a Parts,
+}
+
+/// What is emitted for one pixel.
+struct Emitted {
+    count: u8,
+    rgba: [f32; 4],
+    shade_alpha: f32,
+}
+
+impl Pen<'_> {
+    fn selectors(&self) -> [u16; 4] {
+        [14, 10, 6, 2].map(|low| self.mode.blender_mux >> low & 3)
+    }
+
+    /// F1 and F2.
+    fn answer(&self, emitted: &Emitted, coverage: Option<u8>, colored: bool) -> usize {
+        let alpha = emitted.rgba[3];
+        if !writeback::color_known(self.mode, alpha, emitted.count, coverage, colored) {
+            return NO;
+        }
+        let [_, a, _, b] = self.selectors();
+        let opaque = a == 0 && b == 0 && alpha >= 1.0;
+        if coverage.is_none() && self.mode.antialias && !self.mode.force_blend && !opaque {
+            return DOUBT;
+        }
+        YES
+    }
+
+    /// F3.
+    fn stored(&self, emitted: &Emitted, memory: Option<[u8; 3]>, coverage: u8) -> [u8; 3] {
+        let memory = match memory {
+            Some(bytes) => bytes.map(|byte| f32::from(byte) / 255.0),
+            None => [0.0; 3],
+        };
+        // No selector takes the memory's alpha.
+        let memory = [memory[0], memory[1], memory[2], 0.0];
+        let Emitted { count, rgba, shade_alpha } = *emitted;
+        let parts = self.parts.clone();
+        let [r, g, b, _] = writeback::blend(self.mode, parts, rgba, memory, shade_alpha, count, coverage);
+        [r, g, b]
+    }
+
+    /// F5: the coverage if it is marked afterwards.
+    fn covered(&self, count: u8, coverage: Option<u8>) -> Option<u8> {
+        let RenderMode { cvg_dst, force_blend, antialias, .. } = self.mode;
+        match coverage {
+            Some(coverage) => Some(writeback::destination(self.mode, count, coverage)),
+            None if cvg_dst == 2 => Some(7),
+            None if cvg_dst == 0 && !force_blend && !antialias => Some(count - 1),
+            None => None,
+        }
+    }
+
+    /// F1 to F5 on one pixel.
+    fn put(&self, frame: &mut Frame, pixel: usize, emitted: &Emitted, branches: &mut Branches) {
+        let mark = frame.marks[pixel];
+        let bytes = &mut frame.colors[3 * pixel..3 * pixel + 3];
+        let memory = known_color(mark).then_some([bytes[0], bytes[1], bytes[2]]);
+        let coverage = known_coverage(mark).then_some(frame.coverages[pixel]);
+        let answer = self.answer(emitted, coverage, memory.is_some());
+        if answer == YES {
+            bytes.copy_from_slice(&self.stored(emitted, memory, coverage.unwrap_or(0)));
+        }
+        let covered = self.covered(emitted.count, coverage);
+        if let Some(covered) = covered {
+            frame.coverages[pixel] = covered;
+        }
+        frame.marks[pixel] = u8::from(answer == YES) + 2 * u8::from(covered.is_some());
+        self.count(branches, emitted, (memory, coverage, covered), answer);
+    }
+
+    fn count(
+        &self,
+        branches: &mut Branches,
+        emitted: &Emitted,
+        (memory, coverage, covered): (Option<[u8; 3]>, Option<u8>, Option<u8>),
+        answer: usize,
+    ) {
+        let marked = usize::from(coverage.is_some());
+        branches.colors[marked][answer] += 1;
+        branches.destinations[marked][usize::from(self.mode.cvg_dst).min(4)] += 1;
+        if coverage.is_none() {
+            branches.marked += u64::from(covered.is_some());
+            branches.left += u64::from(covered.is_none());
+        }
+        let [p, a, m, b] = self.selectors();
+        let opaque = a == 0 && b == 0 && emitted.rgba[3] >= 1.0;
+        let meets = self.mode.antialias && coverage.is_some_and(|coverage| coverage + emitted.count < 8);
+        let divided = meets && !self.mode.force_blend && !opaque;
+        let blended = divided || (self.mode.force_blend && !opaque);
+        if answer == YES {
+            branches.memory_colors += u64::from(memory.is_some() && (p == 1 || (m == 1 && blended)));
+            branches.divided += u64::from(divided);
+        }
+    }
+}
+
+pub fn draw(frame: &mut Frame, draw: &Draw, branches: &mut Branches) -> DrawAnswer {
+    let refused = |number| DrawAnswer { number, pixels: 0 };
+    let number = match frame_number(frame) {
+        0 => shape_number(&draw.shape),
+        number => number,
+    };
+    if number != 0 {
+        return refused(number);
+    }
+    let mode = rust::render_mode(draw.mode);
+    let Some(parts) = writeback::combiner_new(&rust::combiner_uniform(draw.uniform), mode) else {
+        return refused(6);
+    };
+    let shape = rust::shape(draw.mode, parts.clone(), &draw.shape);
+    if !shape.admitted() {
+        return refused(7);
+    }
+    let pen = Pen { mode, parts: &parts };
+    let mut pixels = 0;
+    shape.rasterize((frame.width as usize, frame.height as usize), |pixel, count, rgba, shade_alpha| {
+        pixels += 1;
+        pen.put(frame, pixel, &Emitted { count, rgba, shade_alpha }, branches);
+    });
+    DrawAnswer { number: 0, pixels }
+}
+
+pub fn read_word(frame: &Frame, read: &Read) -> Answer {
+    let refused = |number| Answer { number, value: 0 };
+    let number = frame_number(frame);
+    if number != 0 {
+        return refused(number);
+    }
+    let Read { pixel, fmt, siz, rgb_dither, big_endian } = *read;
+    if pixel >= frame.marks.len() {
+        return refused(8);
+    }
+    let writer = coherence::writer(fmt, siz, frame.width, false);
+    if !writer.supported() {
+        return refused(9);
+    }
+    let mark = frame.marks[pixel];
+    if !known_color(mark) || (!known_coverage(mark) && siz == 2) {
+        return refused(10);
+    }
+    let bytes = &frame.colors[3 * pixel..3 * pixel + 3];
+    // A byte writer looks at neither the coverage nor the alpha, a word writer not at the alpha.
+    let coverage = if known_coverage(mark) { frame.coverages[pixel] } else { 0 };
+    let encoding = if big_endian { FramebufferEncoding::BigEndian } else { FramebufferEncoding::Native };
+    let word = writer.encode([bytes[0], bytes[1], bytes[2], 0], coverage, pixel, None, rgb_dither, encoding);
+    Answer { number: 0, value: u32::from(u16::from_le_bytes(word)) }
+}
+
+impl Frame {
+    /// Whether two frames differ in bytes alone that are not known, for slices of any length: the demand for secrecy says
+    /// so of marks that number 3 refuses, too.
+    pub fn like(&self, other: &Frame) -> bool {
+        let color = |mark: Option<&u8>| mark.is_some_and(|mark| mark % 2 == 1);
+        let coverage = |mark: Option<&u8>| mark.is_some_and(|mark| mark % 4 >= 2);
+        let lengths = |frame: &Frame| (frame.width, frame.height, frame.colors.len(), frame.coverages.len());
+        let colors = self.colors.iter().zip(&other.colors).enumerate();
+        let coverages = self.coverages.iter().zip(&other.coverages).enumerate();
+        lengths(self) == lengths(other)
+            && self.marks == other.marks
+            && colors.into_iter().all(|(i, (a, b))| a == b || !color(self.marks.get(i / 3)))
+            && coverages.into_iter().all(|(i, (a, b))| a == b || !coverage(self.marks.get(i)))
+    }
+}

@@ -1,0 +1,285 @@
+//! Lists of draws and word reads on a frame, mostly accepted, with every reason to turn one away.
+
+use crate::compare_combiner::{passing, usable};
+use crate::draws::{Draw, Frame, Read, Shape, Step};
+use crate::inputs::Inputs;
+use crate::library::{Geometry, Mode, Scissor, Uniform};
+use crate::shapes::{any_shape, flawed, rectangle, triangles, TRIANGLES};
+
+pub struct List {
+    pub frame: Frame,
+    pub steps: Vec<Step>,
+}
+
+/// How large the frame is.
+#[derive(Clone, Copy, PartialEq)]
+pub enum Class {
+    /// Up to 6 by 6.
+    Small,
+    /// Up to 8 by 8, without long lists: to be written down.
+    Recorded,
+    /// Mostly small, some longer in one direction or in both.
+    Any,
+    /// 1,024 by 1,024, and few calls.
+    Whole,
+}
+
+fn size(inputs: &mut Inputs, class: Class) -> (u32, u32) {
+    let mut side = |limit: u32| 1 + inputs.below(limit);
+    match class {
+        Class::Small => (side(6), side(6)),
+        Class::Recorded => (side(8), side(8)),
+        Class::Whole => (1024, 1024),
+        Class::Any => match side(512) {
+            1 => (side(1024), side(4)),
+            2 => (side(4), side(1024)),
+            3 if side(16) == 1 => (side(1024), side(1024)),
+            3..=12 => (side(24), side(24)),
+            13..=100 => (side(12), side(12)),
+            _ => (side(6), side(6)),
+        },
+    }
+}
+
+/// A mark byte is known whole, not at all, or anything.
+fn marks(inputs: &mut Inputs, n: usize) -> Vec<u8> {
+    let kind = inputs.below(4);
+    (0..n).map(|_| [0, 3, inputs.below(4) as u8, inputs.below(4) as u8][kind as usize]).collect()
+}
+
+/// A coverage that is not marked may be any byte.
+fn coverage(inputs: &mut Inputs, mark: u8) -> u8 {
+    let byte = inputs.byte();
+    if mark & 2 != 0 {
+        byte % 8
+    } else {
+        byte
+    }
+}
+
+fn frame(inputs: &mut Inputs, (width, height): (u32, u32)) -> Frame {
+    let n = (width * height) as usize;
+    let marks = marks(inputs, n);
+    Frame {
+        width,
+        height,
+        colors: (0..3 * n).map(|_| inputs.byte()).collect(),
+        coverages: marks.iter().map(|mark| coverage(inputs, *mark)).collect(),
+        marks,
+    }
+}
+
+/// One byte or a few more or less, or none at all.
+fn resize(inputs: &mut Inputs, slice: &mut Vec<u8>) {
+    let length = slice.len();
+    let other = inputs.pick(&[0, length.saturating_sub(1), length + 1, length / 2, length * 3]);
+    let byte = inputs.byte() & 3;
+    slice.resize(other, byte);
+}
+
+/// What numbers 1 to 3 turn away.
+fn break_frame(inputs: &mut Inputs, frame: &mut Frame) {
+    let pixel = inputs.below(frame.marks.len().max(1) as u32) as usize;
+    let wrong = inputs.pick(&[0, 1025, 1 << 16, 1 << 31, u32::MAX]);
+    match inputs.below(10) {
+        0 => frame.width = wrong,
+        1 => frame.height = wrong,
+        2 => frame.width = frame.width.wrapping_add(1),
+        3 => resize(inputs, &mut frame.colors),
+        4 => resize(inputs, &mut frame.coverages),
+        5 => resize(inputs, &mut frame.marks),
+        6..=7 => {
+            if let Some(mark) = frame.marks.get_mut(pixel) {
+                *mark = inputs.pick(&[4, 5, 6, 7, 8, 130, 255]);
+            }
+        }
+        _ => {
+            if pixel < frame.marks.len().min(frame.coverages.len()) {
+                frame.marks[pixel] = inputs.pick(&[2, 3]);
+                frame.coverages[pixel] = inputs.pick(&[8, 9, 15, 128, 255]);
+            }
+        }
+    }
+}
+
+/// What number 4 turns away, and its last number that passes.
+fn break_scissor(inputs: &mut Inputs, shape: &mut Shape) {
+    let number = inputs.pick(&[65_535, 65_536, 65_536, 1 << 31, u32::MAX]);
+    let scissor = &mut shape.scissor;
+    let field = [&mut scissor.left, &mut scissor.top, &mut scissor.width, &mut scissor.height];
+    *field.into_iter().nth(inputs.below(4) as usize).unwrap() = number;
+}
+
+/// What number 5 turns away but for long lists.
+fn break_lists(inputs: &mut Inputs, shape: &mut Shape) {
+    let vertex = inputs.below(shape.present.len().max(1) as u32) as usize;
+    match inputs.below(6) {
+        0 => shape.vertices.push(0.5),
+        1 => drop(shape.vertices.pop()),
+        2 => shape.present.push(1),
+        3 => shape.indices.push(0),
+        4 => drop(shape.indices.pop()),
+        _ => match shape.present.get_mut(vertex) {
+            Some(flag) => *flag = inputs.pick(&[2, 3, 255]),
+            None => shape.present.push(2),
+        },
+    }
+}
+
+/// Lists as long as number 5 lets them be, or a little longer.
+fn lengthen(inputs: &mut Inputs, shape: &mut Shape) {
+    if inputs.flag() {
+        let count = inputs.pick(&[4095, 4096, 4096, 4097, 4098]);
+        shape.vertices.resize(6 * count, 0.25);
+        shape.present.resize(count, 1);
+    }
+    if inputs.flag() {
+        let longest = inputs.pick(&[12_288, 12_288, 12_291, 12_289]);
+        let count = shape.present.len().max(1) as u32;
+        let last = count.min(inputs.pick(&[4, 4096]));
+        shape.indices.resize_with(longest, || count - 1 - inputs.below(last));
+    }
+}
+
+fn shape(inputs: &mut Inputs, size: (u32, u32)) -> Shape {
+    let mut shape = match inputs.below(8) {
+        // One triangle over all of the frame, or nearly.
+        0 => {
+            let mut shape = triangles(inputs, size, 1);
+            let (right, bottom) = (size.0 as f32 * 2.0, size.1 as f32 * 2.0);
+            for (vertex, position) in [[0.0, -0.0], [right, 0.25], [0.125, bottom]].into_iter().enumerate() {
+                shape.vertices[6 * vertex..6 * vertex + 2].copy_from_slice(&position);
+            }
+            shape
+        }
+        1 => {
+            let shape = rectangle(inputs, size);
+            let sides =
+                Geometry { left: -0.0, top: 0.0, right: size.0 as f32, bottom: size.1 as f32, ..shape.geometry };
+            Shape { geometry: sides, ..shape }
+        }
+        _ => any_shape(inputs, size),
+    };
+    if inputs.below(12) == 0 {
+        flawed(inputs, &mut shape);
+    }
+    if inputs.below(24) == 0 {
+        break_scissor(inputs, &mut shape);
+    }
+    if inputs.below(24) == 0 {
+        break_lists(inputs, &mut shape);
+    }
+    shape
+}
+
+/// P and M alike and B of 1 - A: what a pixel in doubt has.
+fn equal_sources(mux: u16) -> u16 {
+    mux & !0x00cc | mux >> 8 & 0x00c0
+}
+
+/// Mostly a mode that passes. cvg_dst has two bits on the console, and more do the same as its last case.
+fn mode(inputs: &mut Inputs) -> Mode {
+    let any = inputs.mode();
+    let cvg_dst = if inputs.below(8) == 0 { any.cvg_dst } else { any.cvg_dst % 4 };
+    let blender_mux = if inputs.below(4) == 0 { equal_sources(any.blender_mux) } else { any.blender_mux };
+    // With antialias on and force_blend off it is the coverage that decides.
+    let antialias = any.antialias || inputs.flag();
+    let force_blend = any.force_blend && inputs.flag();
+    let mode = Mode { cvg_dst, blender_mux, antialias, force_blend, ..any };
+    if inputs.below(24) == 0 {
+        mode
+    } else {
+        passing(mode)
+    }
+}
+
+fn uniform(inputs: &mut Inputs) -> Uniform {
+    let temper = inputs.temper();
+    let any = inputs.uniform(temper);
+    let tex_enable = if inputs.below(48) == 0 { any.tex_enable } else { 0 };
+    let uniform = Uniform { tex_enable, ..any };
+    if inputs.below(24) == 0 {
+        uniform
+    } else {
+        usable(inputs, uniform)
+    }
+}
+
+fn draw(inputs: &mut Inputs, size: (u32, u32), class: Class) -> Draw {
+    let mut shape = shape(inputs, size);
+    let long = match class {
+        Class::Recorded => false,
+        // On a large frame so many triangles take long.
+        _ => size.0 * size.1 <= 144 && inputs.below(2000) == 0,
+    };
+    if long {
+        lengthen(inputs, &mut shape);
+    }
+    // Otherwise a scissor leaves little of a large frame.
+    if class == Class::Whole && inputs.below(4) == 0 {
+        shape.scissor = Scissor { left: 0, top: 0, width: 65_535, height: 65_535 };
+    }
+    Draw { mode: mode(inputs), uniform: uniform(inputs), shape }
+}
+
+fn read(inputs: &mut Inputs, (width, height): (u32, u32)) -> Read {
+    let n = width * height;
+    let inside = inputs.below(n) as usize;
+    let past = inputs.pick(&[n, n + 1, 1 << 20, u32::MAX]) as usize;
+    let (fmt, siz) = match inputs.below(16) {
+        0 => (inputs.byte(), inputs.byte()),
+        1 => (inputs.below(6) as u8, inputs.below(5) as u8),
+        2..=9 => (0, 2),
+        _ => (2 + inputs.below(3) as u8, 1),
+    };
+    let rgb_dither = if inputs.below(8) == 0 { inputs.byte() } else { inputs.below(4) as u8 };
+    Read { pixel: if inputs.below(16) == 0 { past } else { inside }, fmt, siz, rgb_dither, big_endian: inputs.flag() }
+}
+
+impl List {
+    pub fn at_random(inputs: &mut Inputs, class: Class) -> List {
+        let size = size(inputs, class);
+        let mut frame = frame(inputs, size);
+        let broken = inputs.below(if class == Class::Recorded { 5 } else { 10 }) == 0;
+        let calls = match class {
+            Class::Small | Class::Any if broken => 3,
+            Class::Small | Class::Any => 5 + inputs.below(16),
+            Class::Recorded if broken => 2,
+            Class::Recorded => 5 + inputs.below(4),
+            Class::Whole => 6,
+        };
+        let step = |inputs: &mut Inputs| match inputs.below(3) {
+            0 => Step::Read(read(inputs, size)),
+            _ => Step::Draw(Box::new(draw(inputs, size, class))),
+        };
+        let steps = (0..calls).map(|_| step(inputs)).collect();
+        if broken && class != Class::Whole {
+            break_frame(inputs, &mut frame);
+            if inputs.flag() {
+                break_frame(inputs, &mut frame);
+            }
+        }
+        List { frame, steps }
+    }
+}
+
+/// The frame with other bytes where none is known.
+pub fn twin(inputs: &mut Inputs, frame: &Frame) -> Frame {
+    let mut twin = frame.clone();
+    for (i, byte) in twin.colors.iter_mut().enumerate() {
+        if frame.marks.get(i / 3).is_none_or(|mark| mark % 2 == 0) {
+            *byte = inputs.byte();
+        }
+    }
+    for (i, byte) in twin.coverages.iter_mut().enumerate() {
+        if frame.marks.get(i).is_none_or(|mark| mark % 4 < 2) {
+            *byte = inputs.byte();
+        }
+    }
+    twin
+}
+
+/// Whether a draw goes over many triangles.
+pub fn is_long(draw: &Draw) -> bool {
+    draw.shape.geometry.kind == TRIANGLES && draw.shape.indices.len() > 12_000
+}
