@@ -26,7 +26,7 @@ use Rattle.frame.specs.declared.Drawn.the-variants as drawn
 use Rattle.frame.specs.Frame.{Frame, Fit, Drew}
 use Rattle.frame.specs.Parts.{Room}
 use Rattle.frame.specs.Checks.{frameRefusal, scissorOk, flagsOk, inputsOk, orElse, entryRefusal}
-use Rattle.frame.specs.Draw.{DrawArgs, Plan, emittedBy, admittedPlan, madePlan, refuseOr, planOf, planBy, drawnMeans, answerBy, frameBy, drawAnswer, drawFrame}
+use Rattle.frame.specs.Draw.{DrawArgs, Plan, emittedBy, admittedPlan, madePlan, refuseOr, planOf, planBy, drawnMeans, Numbered, answerBy, frameBy, drawAnswer, drawFrame}
 use Rattle.frame.proofs.Fits.{accepted}
 
 -- ---- the plan that the checks find
@@ -78,6 +78,17 @@ module _ (d : DrawArgs) (w h : ℕ) {x : Combiner} {es : List Emit} where
   plan-taken zero made.Without p = absurd (clash p)
   plan-taken zero (made.With y) p = taken-by y (admittedOf y (d .geometry) (d .vertices) (d .present) (d .indices)) refl p
   plan-taken (suc k) md p = absurd (clash p)
+
+-- a plan that refuses has a number of the list
+module _ (d : DrawArgs) (w h : ℕ) {n : ℕ} where
+  number-by : (y : Combiner) (b : Bool) → Plan.refuse n ≡ cond b (Plan.accept y (emittedBy d w h y)) (Plan.refuse 7) → 1 ≤ n
+  number-by y true p = absurd (clash (sym p))
+  number-by y false p = let q : n ≡ 7 = cc in omega arith
+
+  numbered : (k : ℕ) (md : Made) → Plan.refuse n ≡ refuseOr k (madePlan d w h md) → 1 ≤ n
+  numbered zero made.Without p = let q : n ≡ 6 = cc in omega arith
+  numbered zero (made.With y) p = number-by y (admittedOf y (d .geometry) (d .vertices) (d .present) (d .indices)) p
+  numbered (suc k) md p = let q : n ≡ suc k = cc in omega arith
 
 -- what the checks leave of a draw that they let through
 module _ (f : Frame) (w h : ℕ) (s : Scissor) (vs : List Float) (ps is : List ℕ) where
@@ -139,14 +150,20 @@ module _ (f : Frame) (w h : ℕ) (s : Scissor) (vs : List Float) (ps is : List �
 
 -- ---- the draw
 module _ (d : DrawArgs) (w h : ℕ) (f : Frame) where
-  answered : {p : Plan} {g : Frame} (a : Drawn) → p ≡ planOf d w h f → drawnMeans a ≡ answerBy p → g ≡ frameBy (d .mode) p f
-      → (drawnMeans a ≡ drawAnswer d w h f) × (g ≡ drawFrame d w h f)
+  answered : {p : Plan} {g : Frame} (a : Drawn) → p ≡ planOf d w h f → drawnMeans a ≡ answerBy p → g ≡ frameBy (d .mode) p f → Numbered a
+      → (drawnMeans a ≡ drawAnswer d w h f) × ((g ≡ drawFrame d w h f) × Numbered a)
   unfolding drawAnswer drawFrame
-  answered x q a b = (a ∙ ap answerBy q, b ∙ ap (λ (p : Plan). frameBy (d .mode) p f) q)
+  answered x q a b n = (a ∙ ap answerBy q, (b ∙ ap (λ (p : Plan). frameBy (d .mode) p f) q, n))
+
+  number-of : {n : ℕ} → Plan.refuse n ≡ planOf d w h f → 1 ≤ n
+  unfolding planOf
+  number-of p = numbered d w h (entryRefusal f w h (d .scissor) (d .vertices) (d .present) (d .indices)) (newOf (d .uniform) (d .mode)) p
 
   module _ (r : Accepted) (e : planBy d w h r ≡ planOf d w h f) where
-    pub draw-refused : {n : ℕ} → r ≡ accept.Refused n → (drawnMeans (drawn.Refused n) ≡ drawAnswer d w h f) × (f ≡ drawFrame d w h f)
-    draw-refused er = answered (drawn.Refused _) (ap (planBy d w h) (sym er) ∙ e) refl refl
+    pub draw-refused : {n : ℕ} → r ≡ accept.Refused n → (drawnMeans (drawn.Refused n) ≡ drawAnswer d w h f) × ((f ≡ drawFrame d w h f) × Numbered (drawn.Refused n))
+    draw-refused {n} er =
+        let p : Plan.refuse n ≡ planOf d w h f = ap (planBy d w h) (sym er) ∙ e in
+        answered (drawn.Refused n) p refl refl (number-of p)
 
     module _ {x : Combiner} (er : r ≡ accept.With x) where
       accepted-plan : Plan.accept x (emittedBy d w h x) ≡ planOf d w h f
@@ -165,5 +182,5 @@ module _ (d : DrawArgs) (w h : ℕ) (f : Frame) where
 
       pub draw-accepted :
           {m n : ℕ} {g : Frame} → Drew (d .mode) x m (emittedBy d w h x) f g n
-          → (drawnMeans (drawn.Emitted n) ≡ drawAnswer d w h f) × (g ≡ drawFrame d w h f)
-      draw-accepted t = answered (drawn.Emitted _) accepted-plan (ap (λ (n : ℕ). drawnMeans (drawn.Emitted n)) (t .ran .count)) (t .ran .state)
+          → (drawnMeans (drawn.Emitted n) ≡ drawAnswer d w h f) × ((g ≡ drawFrame d w h f) × Numbered (drawn.Emitted n))
+      draw-accepted t = answered (drawn.Emitted _) accepted-plan (ap (λ (n : ℕ). drawnMeans (drawn.Emitted n)) (t .ran .count)) (t .ran .state) tt

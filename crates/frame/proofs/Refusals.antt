@@ -135,3 +135,8 @@ module _ (f : Frame) (w h : ℕ) (s : Scissor) (vs : List Float) (ps is : List �
     pub entered : scissorOk s ≡ true → inputsOk vs ps is ≡ true → 0 ≡ entryRefusal f w h s vs ps is
     unfolding entryRefusal
     entered p q = rw (← e, z, p, q)
+
+-- a number that is not 0
+pub above-zero : (n : ℕ) → (n ≡ 0 → ⊥) → 1 ≤ n
+above-zero zero h = absurd (h refl)
+above-zero (suc n) h = omega arith

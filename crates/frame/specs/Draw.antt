@@ -1,6 +1,6 @@
 -- A draw: it is turned away with a number, or carried out on the pixels that it emits. Definitions only. Source: document 01, "The frame (ours)" and "Why
 -- something is turned away".
-use Prim.Native.Nat.{ℕ, zero, suc}
+use Prim.Native.Nat.{ℕ, zero, suc, _≤_}
 use mathlib.Core.Bool.{Bool, cond}
 use mathlib.Core.List.{List}
 use lib.Ieee.{Float}
@@ -87,6 +87,11 @@ pub record DrawAnswer : Type 0 where
 abbrev pub drawnMeans : Drawn → DrawAnswer
 drawnMeans (Emitted n) = record { number = 0; pixels = n }
 drawnMeans (Refused k) = record { number = k; pixels = 0 }
+
+-- a draw that is turned away has a number of the list
+abbrev pub Numbered : Drawn → Type 0
+Numbered (Emitted n) = Unit
+Numbered (Refused k) = 1 ≤ k
 
 abbrev pub answerBy : Plan → DrawAnswer
 answerBy (Plan.refuse k) = record { number = k; pixels = 0 }

@@ -1,5 +1,5 @@
 -- A word read: numbers 1 to 3 and 8 to 10 of document 01, and `encode`'s two bytes without a literal. Definitions only.
-use Prim.Native.Nat.{ℕ, zero, suc, _*_}
+use Prim.Native.Nat.{ℕ, zero, suc, _*_, _≤_}
 use mathlib.Core.Bool.{Bool, false, cond, not, _&&_, _||_}
 use lib.Dec.{ltb, eqb}
 use Rattle.cell.specs.declared.Cell.{Cell}
@@ -66,6 +66,11 @@ noWord = (0, 0)
 abbrev pub wordMeans : Word → WordAnswer
 wordMeans (Bytes a b) = record { number = 0; word = (a, b) }
 wordMeans (Refused k) = record { number = k; word = noWord }
+
+-- a read that is turned away has a number of the list
+abbrev pub Numbered : Word → Type 0
+Numbered (Bytes a b) = Unit
+Numbered (Refused k) = 1 ≤ k
 
 abbrev pub wordOr : ℕ → Bytes2 → WordAnswer
 wordOr zero word = record { number = 0; word = word }

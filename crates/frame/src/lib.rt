@@ -10,7 +10,9 @@ ghost use Rattle.raster.specs.Emitted.{geometryEmits};
 ghost use Rattle.frame.specs.Frame.{Drew, frameOf};
 ghost use Rattle.frame.specs.Parts.{Room};
 ghost use Rattle.frame.specs.Draw.{drawArgs, planBy, planOf, drawnMeans, drawAnswer, drawFrame};
+ghost use Rattle.frame.specs.Draw.{Numbered as NumberedDraw};
 ghost use Rattle.frame.specs.Read.{readArgs, wordMeans, readAnswer};
+ghost use Rattle.frame.specs.Read.{Numbered as NumberedRead};
 use combiner::Combiner;
 use combiner::Made;
 use mode::CombinerUniform;
@@ -155,7 +157,7 @@ pub fn draw(
     present: &[u8],
     indices: &[u32],
 ) -> Drawn
-    ensures { λ r. ⌜ drawnMeans r ≡ drawAnswer (drawArgs mode uniform cull scissor geometry (now (vertices .entry)) (now (present .entry)) (now (indices .entry))) width height (frameOf (now (colors .entry)) (now (coverages .entry)) (now (marks .entry))) ⌝ ∗ ⌜ frameOf (now (colors .exit)) (now (coverages .exit)) (now (marks .exit)) ≡ drawFrame (drawArgs mode uniform cull scissor geometry (now (vertices .entry)) (now (present .entry)) (now (indices .entry))) width height (frameOf (now (colors .entry)) (now (coverages .entry)) (now (marks .entry))) ⌝ }
+    ensures { λ r. ⌜ drawnMeans r ≡ drawAnswer (drawArgs mode uniform cull scissor geometry (now (vertices .entry)) (now (present .entry)) (now (indices .entry))) width height (frameOf (now (colors .entry)) (now (coverages .entry)) (now (marks .entry))) ⌝ ∗ ⌜ frameOf (now (colors .exit)) (now (coverages .exit)) (now (marks .exit)) ≡ drawFrame (drawArgs mode uniform cull scissor geometry (now (vertices .entry)) (now (present .entry)) (now (indices .entry))) width height (frameOf (now (colors .entry)) (now (coverages .entry)) (now (marks .entry))) ⌝ ∗ ⌜ NumberedDraw r ⌝ }
 {
     match accept(
         width,
@@ -204,7 +206,7 @@ pub fn read_word(
     rgb_dither: u8,
     encoding: FramebufferEncoding,
 ) -> Word
-    ensures { λ r. ⌜ wordMeans r ≡ readAnswer (readArgs pixel fmt siz «rgb_dither» encoding) width height (frameOf (now (colors .entry)) (now (coverages .entry)) (now (marks .entry))) ⌝ }
+    ensures { λ r. ⌜ wordMeans r ≡ readAnswer (readArgs pixel fmt siz «rgb_dither» encoding) width height (frameOf (now (colors .entry)) (now (coverages .entry)) (now (marks .entry))) ⌝ ∗ ⌜ NumberedRead r ⌝ }
 {
     let refusal = checks::frame_refusal(colors, coverages, marks, width, height);
     if refusal != 0 {

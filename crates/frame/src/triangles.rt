@@ -257,7 +257,7 @@ pub fn draw_triangles(
     let count = indices.len() / 3;
     let mut n: u64 = 0;
     for i in 0..count {
-        n += draw_indexed(
+        let drawn = draw_indexed(
             colors,
             coverages,
             marks,
@@ -272,6 +272,7 @@ pub fn draw_triangles(
             indices,
             i,
         );
+        n += drawn;
     }
     n
 }

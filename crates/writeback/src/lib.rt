@@ -56,7 +56,7 @@ pub use raster::admitted;
 pub use vertex::Vertex;
 
 // The frame.
-pub use frame::draw;
-pub use frame::read_word;
 pub use frame::Drawn;
 pub use frame::Word;
+pub use frame::draw;
+pub use frame::read_word;

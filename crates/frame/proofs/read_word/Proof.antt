@@ -2,7 +2,8 @@
 use mathlib.Core.Path.{ap, _∙_}
 use Rattle.pack.specs.Writer.{supportedOf}
 use Rattle.frame.specs.Read.{readArgs}
-use Rattle.frame.proofs.Refusals.{was-true, was-false}
+use lib.Dec.{lit≤}
+use Rattle.frame.proofs.Refusals.{was-true, was-false, above-zero}
 use Rattle.frame.proofs.Reading.{read-refused, eighth, ninth, tenth, read, encodable}
 use borrow.Author.Needs.{needs}
 use Rattle.frame.proofs.read_word.Statement.{statement}
@@ -12,10 +13,10 @@ frame-refusal-requires : tie.Need-frame-refusal-requires
 frame-refusal-requires c κs = search needs
 
 returns : tie.Need-returns
-returns c = read-refused _ _ _ _ (c .before .frame-refusal .ensures) (c .if1 .taken)
+returns c = (read-refused _ _ _ _ (c .before .frame-refusal .ensures) (c .if1 .taken), above-zero _ (c .if1 .taken))
 
 returns-2 : tie.Need-returns-2
-returns-2 c = eighth _ _ _ _ (c .before .before .frame-refusal .ensures) (c .before .if1 .left) (c .if2 .taken)
+returns-2 c = (eighth _ _ _ _ (c .before .before .frame-refusal .ensures) (c .before .if1 .left) (c .if2 .taken), lit≤ tt)
 
 writer-requires : tie.Need-writer-requires
 writer-requires c κs = search needs
@@ -24,9 +25,11 @@ supported-requires : tie.Need-supported-requires
 supported-requires c κs = search needs
 
 returns-3 : tie.Need-returns-3
-returns-3 c =
-    ninth _ _ _ _ (c .before .before .before .before .before .frame-refusal .ensures) (c .before .before .before .before .if1 .left) (c .before .before .before .if2 .left)
-    (was-false (c .before .supported .ensures ∙ ap supportedOf (c .before .before .writer .ensures)) (c .if3 .taken))
+returns-3 c = (
+  ninth _ _ _ _ (c .before .before .before .before .before .frame-refusal .ensures) (c .before .before .before .before .if1 .left) (c .before .before .before .if2 .left)
+      (was-false (c .before .supported .ensures ∙ ap supportedOf (c .before .before .writer .ensures)) (c .if3 .taken)),
+  lit≤ tt,
+)
 
 shared-slice-read-mark : tie.Need-shared-slice-read-mark
 shared-slice-read-mark c = search needs
@@ -35,10 +38,12 @@ is-readable-requires : tie.Need-is-readable-requires
 is-readable-requires c κs = search needs
 
 returns-4 : tie.Need-returns-4
-returns-4 c =
-    tenth _ _ _ _ (c .before .before .before .before .before .before .before .before .frame-refusal .ensures) (c .before .before .before .before .before .before .before .if1 .left) (c .before .before .before .before .before .before .if2 .left)
-    (was-true (c .before .before .before .before .supported .ensures ∙ ap supportedOf (c .before .before .before .before .before .writer .ensures)) (c .before .before .before .if3 .left))
-    (was-false (c .before .is-readable .ensures) (c .if4 .taken))
+returns-4 c = (
+  tenth _ _ _ _ (c .before .before .before .before .before .before .before .before .frame-refusal .ensures) (c .before .before .before .before .before .before .before .if1 .left) (c .before .before .before .before .before .before .if2 .left)
+      (was-true (c .before .before .before .before .supported .ensures ∙ ap supportedOf (c .before .before .before .before .before .writer .ensures)) (c .before .before .before .if3 .left))
+      (was-false (c .before .is-readable .ensures) (c .if4 .taken)),
+  lit≤ tt,
+)
 
 encoded-requires : tie.Need-encoded-requires
 encoded-requires c κs =
@@ -48,12 +53,14 @@ encoded-requires c κs =
     (c .before .before .before .before .before .writer .ensures)
 
 returns-5 : tie.Need-returns-5
-returns-5 c =
-    read _ _ _ _ (c .before .before .before .before .before .before .before .before .before .frame-refusal .ensures) (c .before .before .before .before .before .before .before .before .if1 .left) (c .before .before .before .before .before .before .before .if2 .left)
-    (was-true (c .before .before .before .before .before .supported .ensures ∙ ap supportedOf (c .before .before .before .before .before .before .writer .ensures)) (c .before .before .before .before .if3 .left))
-    (was-true (c .before .before .is-readable .ensures) (c .before .if4 .left))
-    (c .before .before .before .before .before .before .writer .ensures)
-    (c .encoded .ensures)
+returns-5 c = (
+  read _ _ _ _ (c .before .before .before .before .before .before .before .before .before .frame-refusal .ensures) (c .before .before .before .before .before .before .before .before .if1 .left) (c .before .before .before .before .before .before .before .if2 .left)
+      (was-true (c .before .before .before .before .before .supported .ensures ∙ ap supportedOf (c .before .before .before .before .before .before .writer .ensures)) (c .before .before .before .before .if3 .left))
+      (was-true (c .before .before .is-readable .ensures) (c .before .if4 .left))
+      (c .before .before .before .before .before .before .writer .ensures)
+      (c .encoded .ensures),
+  tt,
+)
 
 pub read-word-spec : {M : Type 1} → statement M
 read-word-spec =

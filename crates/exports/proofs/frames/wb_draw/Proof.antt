@@ -41,7 +41,7 @@ returns c =
       c .drawn .ensures
           ∙ ap drawnAnswer (d .0)
           ∙ (λ i. drawnAnswer (drawAnswer (drawArgs (m i) (a .uniform) (a .cull) (a .scissor) (g i) (now (a .vertices)) (now (a .present)) (now (a .indices))) (a .width) (a .height) f)),
-      d .1
+      d .1 .0
           ∙ (λ i. drawFrame (drawArgs (m i) (a .uniform) (a .cull) (a .scissor) (g i) (now (a .vertices)) (now (a .present)) (now (a .indices))) (a .width) (a .height) f),
     )
 

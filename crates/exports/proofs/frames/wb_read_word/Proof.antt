@@ -22,7 +22,7 @@ returns c =
     let a = c .before .before .before .before .before .before .args in
     let f = frameOf (now (a .colors)) (now (a .coverages)) (now (a .marks)) in
     c .word .ensures
-    ∙ ap wordAnswer (c .before .read-word .ensures)
+    ∙ ap wordAnswer (c .before .read-word .ensures .0)
     ∙ (λ i. wordAnswer (readAnswer (readArgs (a .pixel) (a .fmt) (a .siz) (a .rgb-dither) (c .before .before .byte-order .ensures i)) (a .width) (a .height) f))
 
 pub wb-read-word-spec : {M : Type 1} → statement M
