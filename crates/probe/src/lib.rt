@@ -1,5 +1,5 @@
 // A test entry: what one pixel of a draw emits, worked out by itself. A caller that visits every pixel of the frame inside the scissor, triangle after triangle, row after
-// row, from left to right, has the draw's emitted list.
+// row, from left to right, sees the pixels that the draw emits, in its order.
 ghost use mathlib.Core.Path.{_≡_};
 ghost use Prim.Native.Nat.{_<_};
 ghost use Rattle.probe.specs.Probe.{triangleProbe, indexedProbe, pixelProbe};
