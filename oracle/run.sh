@@ -11,7 +11,11 @@ if [ ! -d "$RUST_SRC/ultragfx" ]; then
   echo "oracle: no Rust sources at $RUST_SRC: the comparison is left out"
   exit 0
 fi
-(cd .. && rt staticlib exports > target-staticlib.log 2>&1) || { tail -n 40 ../target-staticlib.log; rm -f ../target-staticlib.log; exit 1; }
-rm -f ../target-staticlib.log
+log=$(mktemp)
+trap 'rm -f "$log"' EXIT
+if ! (cd .. && rt staticlib exports) > "$log" 2>&1; then
+  tail -n 40 "$log" >&2
+  exit 1
+fi
 cargo build --release --offline --quiet
 target/release/oracle "$@"
