@@ -141,3 +141,27 @@ coverage-after mode k s x p q h =
     let coverage = coverageOf (x .mark) (x .coverage) in
     rw (coverage-of-mark (verdictOf mode s coverage (colorMarked (x .mark))) (ruleF5 mode (s .count) coverage) (x .coverage))
     (rule-le mode (s .count) coverage p q h)
+
+-- ---- what is not known after a step is as it was
+module _ (mode : RenderMode) (k : Combiner) (s : Source) (x : Cell) where
+  pub kept-colors :
+      colorMarked (cellStep mode k s x .mark) ≡ false
+      → (cellStep mode k s x .red ≡ x .red) × ((cellStep mode k s x .green ≡ x .green) × (cellStep mode k s x .blue ≡ x .blue))
+  unfolding cellStep
+  kept-colors h =
+      let coverage = coverageOf (x .mark) (x .coverage) in
+      let marked = colorMarked (x .mark) in
+      let no : verdictOf mode s coverage marked ≡ false = sym (color-of-mark (verdictOf mode s coverage marked) (ruleF5 mode (s .count) coverage)) ∙ h in
+      let colors : cond (verdictOf mode s coverage marked) (ruleF3 mode k s coverage (memoryOf marked x)) (ruleF4 x) ≡ ruleF4 x = λ i. cond (no i) (ruleF3 mode k s coverage (memoryOf marked x)) (ruleF4 x) in
+      (ap (λ (c : Colors). c .red) colors, (ap (λ (c : Colors). c .green) colors, ap (λ (c : Colors). c .blue) colors))
+
+  pub kept-coverage : coverageMarked (cellStep mode k s x .mark) ≡ false → cellStep mode k s x .coverage ≡ x .coverage
+  unfolding cellStep markOf
+  kept-coverage h =
+      let coverage = coverageOf (x .mark) (x .coverage) in
+      go (verdictOf mode s coverage (colorMarked (x .mark))) (ruleF5 mode (s .count) coverage) h
+    where
+      go : (v : Bool) (c : Coverage) → coverageMarked (markOf v c) ≡ false → coverageByte c (x .coverage) ≡ x .coverage
+      go v Unknown p = refl
+      go true (Known c) p = never (sym p)
+      go false (Known c) p = never (sym p)

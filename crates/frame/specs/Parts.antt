@@ -1,9 +1,9 @@
 -- The parts of a draw as the code goes through them: an emitted pixel, and the pixels and rows of a triangle and of a rectangle. Definitions only.
 use Prim.Native.Nat.{ℕ, _+_, _*_, _/_, _≤_}
-use mathlib.Core.Bool.{Bool}
+use mathlib.Core.Bool.{Bool, cond}
 use mathlib.Core.List.{List, [], _∷_, map}
 use lib.Ieee.{Float}
-use lib.ListN.{length}
+use lib.ListN.{length, set}
 use Rattle.mode.specs.declared.RenderMode.{RenderMode}
 use Rattle.mode.specs.declared.Rgba.{Rgba}
 use Rattle.combiner.specs.declared.Combiner.{Combiner}
@@ -22,6 +22,8 @@ use Rattle.raster.specs.declared.Fragment.the-variants.{Empty, Covered}
 use Rattle.raster.specs.Parts.{from}
 use Rattle.raster.specs.Admitted.{triangleAt}
 use Rattle.raster.specs.Emitted.{Emit, emits, cornerOf, triangleFragment, threeEmits, rectangleFragment}
+use Rattle.cell.specs.declared.Cell.{Cell}
+use Rattle.cell.specs.Marks.{colorMarked, coverageMarked}
 use Rattle.frame.specs.Frame.{Frame, Fit}
 
 abbrev pub emitOf : ℕ → ℕ → Rgba → Float → Emit
@@ -64,3 +66,30 @@ rectanglePixel mode c sides w y x = emits (rectangleFragment (mode .antialias) c
 
 abbrev pub rectangleRow : RenderMode → Color → Sides → ℕ → ℕ → ℕ → ℕ → List Emit
 rectangleRow mode c sides w l r y = from (rectanglePixel mode c sides w y) l r
+
+-- ---- a pixel as far as it is known
+
+-- an unmarked byte stands as 0
+abbrev pub knownCell : Cell → Cell
+knownCell x =
+    record {
+      red = cond (colorMarked (x .mark)) (x .red) 0;
+      green = cond (colorMarked (x .mark)) (x .green) 0;
+      blue = cond (colorMarked (x .mark)) (x .blue) 0;
+      coverage = cond (coverageMarked (x .mark)) (x .coverage) 0;
+      mark = x .mark;
+    }
+
+-- a byte stored, if it is known
+abbrev pub putIf : Bool → List ℕ → ℕ → ℕ → List ℕ
+putIf known l i v = cond known (set l i v) l
+
+-- a pixel stored as far as it is known
+abbrev pub putKnown : Frame → ℕ → Cell → Frame
+putKnown f p x =
+    let known = colorMarked (x .mark) in
+    record {
+      colors = putIf known (putIf known (putIf known (f .colors) (3 * p) (x .red)) (3 * p + 1) (x .green)) (3 * p + 2) (x .blue);
+      coverages = putIf (coverageMarked (x .mark)) (f .coverages) p (x .coverage);
+      marks = set (f .marks) p (x .mark);
+    }

@@ -1,17 +1,79 @@
-// One emitted pixel on the frame. Its bytes are read as one value, and rules F1 to F5 make the next; a byte without its mark is only ever kept.
+// One emitted pixel on the frame. A colour or coverage byte is read only where its mark says that it is known, and written only where it then is.
 ghost use mathlib.Core.Path.{_≡_};
 ghost use Prim.Native.Nat.{_<_, _≤_};
-ghost use lib.ListN.{length};
+ghost use mathlib.Core.Bool.{cond};
+ghost use lib.ListN.{length, getD};
 ghost use Rattle.edges.specs.Sample.{countOf};
 ghost use Rattle.raster.specs.Emitted.{emits};
-ghost use Rattle.frame.specs.Frame.{Fit, Drew, frameOf, stepFrame};
-ghost use Rattle.frame.specs.Parts.{emitOf, Counted};
+ghost use Rattle.frame.specs.Frame.{Fit, Drew, frameOf, cellAt, stepFrame};
+ghost use Rattle.frame.specs.Parts.{emitOf, Counted, knownCell, putIf, putKnown};
 use cell::Cell;
 use cell::Source;
 use combiner::Combiner;
 use mode::RenderMode;
 use mode::Rgba;
 use raster::Fragment;
+
+// A byte, if it is known; else 0, and it is not read.
+fn known_byte(bytes: &[u8], at: usize, known: bool) -> u8
+    requires { ⌜ at < length (now bytes) ⌝ }
+    ensures { λ r. ⌜ r ≡ cond known (getD (now (bytes .entry)) at 0) 0 ⌝ }
+{
+    if known {
+        return bytes[at];
+    }
+    0
+}
+
+// The bytes of a pixel as far as they are known.
+fn known_cell(colors: &[u8], coverages: &[u8], marks: &[u8], pixel: usize) -> Cell
+    requires { ⌜ pixel < length (now marks) ⌝ ∗ ⌜ Fit (length (now marks)) (frameOf (now colors) (now coverages) (now marks)) ⌝ }
+    ensures { λ r. ⌜ r ≡ knownCell (cellAt (frameOf (now (colors .entry)) (now (coverages .entry)) (now (marks .entry))) pixel) ⌝ }
+{
+    let at = 3 * pixel;
+    let mark = marks[pixel];
+    let known = cell::color_marked(mark);
+    let covered = cell::coverage_marked(mark);
+    let red = known_byte(colors, at, known);
+    let green = known_byte(colors, at + 1, known);
+    let blue = known_byte(colors, at + 2, known);
+    let coverage = known_byte(coverages, pixel, covered);
+    Cell {
+        red,
+        green,
+        blue,
+        coverage,
+        mark,
+    }
+}
+
+// Stores a byte that is known.
+fn put_byte(bytes: &mut [u8], at: usize, known: bool, byte: u8)
+    requires { ⌜ at < length (now bytes) ⌝ }
+    ensures { λ r. ⌜ now (bytes .exit) ≡ putIf known (now (bytes .entry)) at byte ⌝ }
+{
+    if known {
+        bytes[at] = byte;
+    }
+}
+
+// Stores a pixel's mark, and its bytes where the mark says that they are known.
+fn put_cell(colors: &mut [u8], coverages: &mut [u8], marks: &mut [u8], pixel: usize, cell: Cell)
+    requires { ⌜ pixel < length (now marks) ⌝ ∗ ⌜ Fit (length (now marks)) (frameOf (now colors) (now coverages) (now marks)) ⌝ }
+    ensures { λ r. ⌜ frameOf (now (colors .exit)) (now (coverages .exit)) (now (marks .exit)) ≡ putKnown (frameOf (now (colors .entry)) (now (coverages .entry)) (now (marks .entry))) pixel cell ⌝ }
+{
+    let at = 3 * pixel;
+    let green_at = at + 1;
+    let blue_at = at + 2;
+    let mark = cell.mark;
+    let known = cell::color_marked(mark);
+    let covered = cell::coverage_marked(mark);
+    put_byte(colors, at, known, cell.red);
+    put_byte(colors, green_at, known, cell.green);
+    put_byte(colors, blue_at, known, cell.blue);
+    put_byte(coverages, pixel, covered, cell.coverage);
+    marks[pixel] = mark;
+}
 
 // F1 to F5 at a pixel's place.
 fn step(
@@ -28,21 +90,7 @@ fn step(
     requires { ⌜ (1 ≤ countOf mask) × (countOf mask ≤ 8) ⌝ ∗ ⌜ pixel < length (now marks) ⌝ ∗ ⌜ Fit (length (now marks)) (frameOf (now colors) (now coverages) (now marks)) ⌝ }
     ensures { λ r. ⌜ frameOf (now (colors .exit)) (now (coverages .exit)) (now (marks .exit)) ≡ stepFrame mode combiner (frameOf (now (colors .entry)) (now (coverages .entry)) (now (marks .entry))) (emitOf pixel mask color «shade_alpha») ⌝ }
 {
-    let red_at = 3 * pixel;
-    let green_at = red_at + 1;
-    let blue_at = red_at + 2;
-    let red = colors[red_at];
-    let green = colors[green_at];
-    let blue = colors[blue_at];
-    let coverage = coverages[pixel];
-    let mark = marks[pixel];
-    let before = Cell {
-        red,
-        green,
-        blue,
-        coverage,
-        mark,
-    };
+    let before = known_cell(colors, coverages, marks, pixel);
     let count = edges::count(mask);
     let source = Source {
         color,
@@ -50,11 +98,7 @@ fn step(
         count,
     };
     let after = cell::cell_step(mode, combiner, source, before);
-    colors[red_at] = after.red;
-    colors[green_at] = after.green;
-    colors[blue_at] = after.blue;
-    coverages[pixel] = after.coverage;
-    marks[pixel] = after.mark;
+    put_cell(colors, coverages, marks, pixel, after);
 }
 
 // What a pixel emits, carried out: how many pixels that is.

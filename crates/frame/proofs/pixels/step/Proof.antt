@@ -1,55 +1,35 @@
--- `step` meets its contract: what `cell_step` answers is stored at the pixel's five places.
+-- `step` meets its contract: what `cell_step` answers of what is known is stored as far as it is known, which is a step of the frame (`stored-known`). Assumes nothing.
+use Prim.Native.Nat.{ℕ, _≤_}
+use mathlib.Core.Path.{sym, subst}
 use native.Mathlib.Omega.{arith}
-use lib.ListN.{length-set}
-use Rattle.frame.proofs.Steps.{stored}
+use denote.Ref.{now}
+use Rattle.cell.specs.declared.Cell.{Cell}
+use Rattle.cell.specs.Marks.{coverageOf}
+use Rattle.cell.specs.Rules.{orZero}
+use Rattle.frame.specs.Frame.{frameOf, cellAt}
+use Rattle.frame.proofs.Steps.{known-sound, stored-known}
 use borrow.Author.Needs.{needs}
 use Rattle.frame.proofs.pixels.step.Statement.{statement}
 use Rattle.frame.proofs.pixels.step.Tie as tie
 
-mul-red-at : tie.Need-mul-red-at
-mul-red-at c = search needs
-
-add-green-at : tie.Need-add-green-at
-add-green-at c = search needs
-
-add-blue-at : tie.Need-add-blue-at
-add-blue-at c = search needs
-
-slice-read-red : tie.Need-slice-read-red
-slice-read-red c = search needs
-
-slice-read-green : tie.Need-slice-read-green
-slice-read-green c = search needs
-
-slice-read-blue : tie.Need-slice-read-blue
-slice-read-blue c = search needs
-
-slice-read-coverage : tie.Need-slice-read-coverage
-slice-read-coverage c = search needs
-
-slice-read-mark : tie.Need-slice-read-mark
-slice-read-mark c = search needs
+known-cell-requires : tie.Need-known-cell-requires
+known-cell-requires c κs = search needs
 
 count-requires : tie.Need-count-requires
 count-requires c κs = search needs
 
 cell-step-requires : tie.Need-cell-step-requires
-cell-step-requires c κs = let s = c .before .before .before .before .before .before .before .before .before in (omega (arith, s .pre .0 .0, s .pre .0 .1, c .count .ensures), s .pre .1 .1 .sound (s .args .pixel))
+cell-step-requires c κs =
+    let s = c .before .before .before .before .before .before .before .before in
+    let a = s .args in
+    let f = frameOf (now (a .colors)) (now (a .coverages)) (now (a .marks)) in (
+      omega (arith, s .pre .0 .0, s .pre .0 .1, c .count .ensures),
+      subst (λ (x : Cell). orZero (coverageOf (x .mark) (x .coverage)) ≤ 7) (sym (c .before .known-cell .ensures))
+          (subst (λ (n : ℕ). n ≤ 7) (sym (known-sound (cellAt f (a .pixel)))) (s .pre .1 .1 .sound (a .pixel))),
+    )
 
-slice-write-colors : tie.Need-slice-write-colors
-slice-write-colors c = search needs
-
-slice-write-colors-2 : tie.Need-slice-write-colors-2
-slice-write-colors-2 c = simp length-set (omega arith)
-
-slice-write-colors-3 : tie.Need-slice-write-colors-3
-slice-write-colors-3 c = simp length-set (omega arith)
-
-slice-write-coverages : tie.Need-slice-write-coverages
-slice-write-coverages c = search needs
-
-slice-write-marks : tie.Need-slice-write-marks
-slice-write-marks c = search needs
+put-cell-requires : tie.Need-put-cell-requires
+put-cell-requires c κs = search needs
 
 same-length : tie.Need-same-length
 same-length c = search needs
@@ -61,27 +41,24 @@ same-length-3 : tie.Need-same-length-3
 same-length-3 c = search needs
 
 returns : tie.Need-returns
-returns c = stored _ _ _ _ _ _ _ (c .before .count .ensures) (c .cell-step .ensures)
+returns c =
+    let s = c .before .before .before .before .before .before .before .before .before .before .before .before .before .before .before .before .before .before .before in
+    stored-known _ _ _ _ _ _ _
+    (c .before .before .before .before .before .before .before .before .before .before .before .count .ensures)
+    (c .before .before .before .before .before .before .before .before .before .before .before .before .known-cell .ensures)
+    (c .before .before .before .before .before .before .before .before .before .before .cell-step .ensures)
+    (c .before .before .before .before .before .before .put-cell .ensures)
+    (omega (arith, s .pre .1 .0, s .pre .1 .1 .colors))
+    (omega (arith, s .pre .1 .0, s .pre .1 .1 .coverages))
 
 pub step-spec : {M : Type 1} → statement M
 step-spec =
     tie.close
     (tie.spec
-    mul-red-at
-    add-green-at
-    add-blue-at
-    slice-read-red
-    slice-read-green
-    slice-read-blue
-    slice-read-coverage
-    slice-read-mark
+    known-cell-requires
     count-requires
     cell-step-requires
-    slice-write-colors
-    slice-write-colors-2
-    slice-write-colors-3
-    slice-write-coverages
-    slice-write-marks
+    put-cell-requires
     same-length
     same-length-2
     same-length-3
