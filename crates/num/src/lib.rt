@@ -4,7 +4,7 @@ ghost use mathlib.Core.Path.{_≡_};
 ghost use Rattle.num.specs.Color.{clamped, channelOf, isFinite, totalLe};
 ghost use Rattle.num.specs.Whole.{whole, near, floor, ceil, indexCap, byteOf, quarterOf};
 
-// No index of a frame or a scissor (at most 65,535 + 65,535) comes near this: what is cut off here is cut off by them too.
+// No bound of a frame or of a scissor (at most 65,535 + 65,535) is above this: what is cut off here is cut off by them too.
 const INDEX_CAP: usize = 131072;
 
 const INDEX_LIMIT: f32 = 131072.0;
