@@ -1,11 +1,11 @@
 // Whether the port's answer is the recorded one, in the words from `at` on.
-use crate::line::Words;
-use crate::values::float;
 use combiner::Combiner;
 use mode::Rgba;
 use selectors::AlphaIn;
 use selectors::ColorIn;
 use selectors::CycleSel;
+use sheet::line::Words;
+use sheet::values::float;
 ghost use Prim.Native.Nat.{_+_, _≤_};
 
 // Document 01's number for an argument that a single-pixel call turns away.

@@ -10,10 +10,10 @@ mod answers;
 mod calls;
 mod line;
 mod table;
-mod values;
 
+use sheet::line::line_end;
 use table::CALLS;
-ghost use Prim.Native.Nat.{_+_, _≤_, _<_};
+ghost use Prim.Native.Nat.{_<_};
 ghost use mathlib.Core.Path.{_≡_};
 ghost use lib.ListN.{length};
 
@@ -52,21 +52,6 @@ fn judge(s: &[u8]) -> Verdict
         call,
         agrees: false,
     }
-}
-
-// Where the line that starts at `at` ends: at a newline or at the end of the text.
-fn line_end(s: &[u8], at: usize) -> usize
-    requires { ⌜ at ≤ length (now s) ⌝ }
-    ensures { λ r. ⌜ (at ≤ r) × (r ≤ length (now (s .entry))) ⌝ }
-{
-    let mut end = at;
-    while end < s.len() {
-        if s[end] == b'\n' {
-            return end;
-        }
-        end += 1;
-    }
-    end
 }
 
 fn print_line(s: &[u8], number: usize) {

@@ -204,7 +204,7 @@ pub fn render_mode(w: &Words, at: usize) -> RenderMode
     }
 }
 
-// A uniform, from a line's first 60 words. All of them are in range.
+// A uniform, from a call's first 60 words. All of them are in range.
 pub fn uniform(w: &Words) -> CombinerUniform {
     CombinerUniform {
         combine_l: w[0],
@@ -278,7 +278,7 @@ pub fn writer_within(w: &Words) -> bool {
     bytes & depth
 }
 
-// A writer, from a line's first four words.
+// A writer, from a call's first four words.
 pub fn writer(w: &Words) -> Writer {
     let layout = ImageLayout {
         fmt: byte(w[0]),

@@ -1,9 +1,9 @@
--- `replay::line_end` meets its contract: the end lies from the start to the text's length. The measure is what is left of the text. Assumes nothing.
+-- `sheet::line::line_end` meets its contract: the end lies from the start to the text's length. The measure is what is left of the text. Assumes nothing.
 use Prim.Native.Nat.{_≤_, _-_}
 use lib.ListN.{length}
 use borrow.Author.Needs.{needs}
-use Rattle.replay.proofs.line_end.Statement.{statement}
-use Rattle.replay.proofs.line_end.Tie as tie
+use Rattle.sheet.proofs.line.line_end.Statement.{statement}
+use Rattle.sheet.proofs.line.line_end.Tie as tie
 
 abbrev Inv-loop : tie.InvT-loop
 Inv-loop s at end₀ end = (at ≤ end) × (end ≤ length s)

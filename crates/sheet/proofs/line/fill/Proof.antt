@@ -1,8 +1,8 @@
--- `replay::line::fill` is safe and ends: each word lies within the line, and its place within the array. The measure is the words that are left. Assumes nothing.
+-- `sheet::line::fill` is safe and ends: each word lies within the line, and its place within the array. The measure is the words that are left. Assumes nothing.
 use Prim.Native.Nat.{_≤_, _-_}
 use borrow.Author.Needs.{needs}
-use Rattle.replay.proofs.line.fill.Statement.{statement}
-use Rattle.replay.proofs.line.fill.Tie as tie
+use Rattle.sheet.proofs.line.fill.Statement.{statement}
+use Rattle.sheet.proofs.line.fill.Tie as tie
 
 abbrev Inv-loop : tie.InvT-loop
 Inv-loop s at w₀ first count i₀ w i = i ≤ count

@@ -1,8 +1,8 @@
--- `replay::values::within` is safe and ends. The measure is the words that are left. Assumes nothing.
+-- `sheet::values::within` is safe and ends. The measure is the words that are left. Assumes nothing.
 use Prim.Native.Nat.{_≤_, _-_}
 use borrow.Author.Needs.{needs}
-use Rattle.replay.proofs.values.within.Statement.{statement}
-use Rattle.replay.proofs.values.within.Tie as tie
+use Rattle.sheet.proofs.values.within.Statement.{statement}
+use Rattle.sheet.proofs.values.within.Tie as tie
 
 abbrev Inv-loop : tie.InvT-loop
 Inv-loop w first count limit i₀ i = i ≤ count

@@ -1,4 +1,4 @@
--- `replay::values::float` meets its contract: the test on the bits is lib.Ieee's test for a NaN's. Assumes nothing.
+-- `sheet::values::float` meets its contract: the test on the bits is lib.Ieee's test for a NaN's. Assumes nothing.
 use mathlib.Core.Path.{_≡_, refl, sym, _∙_, subst}
 use mathlib.Core.Bool.{Bool, true, not, true≢false}
 use borrow.Author.Needs.{needs}
@@ -6,8 +6,8 @@ use borrow.Author.Tests.{lt-ltb, le-ltb}
 use lib.Dec.{T}
 use lib.Ieee.{Float, nan, inf, fin, binary32, isNan, ofBits, div}
 use lib.Ieee.Bits.{nanBits-is, nanBits-above}
-use Rattle.replay.proofs.values.float.Statement.{statement}
-use Rattle.replay.proofs.values.float.Tie as tie
+use Rattle.sheet.proofs.values.float.Statement.{statement}
+use Rattle.sheet.proofs.values.float.Tie as tie
 
 of-nan : (x : Float) → isNan x ≡ true → nan ≡ x
 unfolding isNan

@@ -1,8 +1,8 @@
--- `replay::line::word_at` is safe and ends. The measure is the digits that are left; at most fifteen is added to sixteen times a number of 28 bits. Assumes nothing.
+-- `sheet::line::word_at` is safe and ends. The measure is the digits that are left; at most fifteen is added to sixteen times a number of 28 bits. Assumes nothing.
 use Prim.Native.Nat.{_≤_, _-_}
 use borrow.Author.Needs.{needs}
-use Rattle.replay.proofs.line.word_at.Statement.{statement}
-use Rattle.replay.proofs.line.word_at.Tie as tie
+use Rattle.sheet.proofs.line.word_at.Statement.{statement}
+use Rattle.sheet.proofs.line.word_at.Tie as tie
 
 abbrev Inv-loop : tie.InvT-loop
 Inv-loop s at value₀ i₀ value i = i ≤ 9
