@@ -1,7 +1,7 @@
 -- A draw's and a word read's answer as C has it. Definitions only.
 use Prim.Native.Nat.{ℕ}
-use Rattle.frame.specs.Draw.{DrawAnswer}
-use Rattle.frame.specs.Read.{WordAnswer}
+use Rattle.draw.specs.Draw.{DrawAnswer}
+use Rattle.words.specs.Read.{WordAnswer}
 use Rattle.exports.specs.declared.Answer.{Answer}
 use Rattle.exports.specs.declared.frames.DrawnAnswer.{DrawnAnswer}
 use Rattle.exports.specs.Answers.{twoBytes}

@@ -1,8 +1,8 @@
 // The C interface of the frame: a draw and a word read over three lent slices of colour bytes, coverages and marks.
 ghost use mathlib.Core.Path.{_≡_};
 ghost use Rattle.frame.specs.Frame.{frameOf};
-ghost use Rattle.frame.specs.Draw.{drawArgs, drawnMeans, drawAnswer, drawFrame};
-ghost use Rattle.frame.specs.Read.{readArgs, wordMeans, readAnswer};
+ghost use Rattle.draw.specs.Draw.{drawArgs, drawnMeans, drawAnswer, drawFrame};
+ghost use Rattle.words.specs.Read.{readArgs, wordMeans, readAnswer};
 ghost use Rattle.exports.specs.Convert.{modeOf, encodingOf};
 ghost use Rattle.exports.specs.Draws.{geometryFrom};
 ghost use Rattle.exports.specs.Frames.{drawnAnswer, wordAnswer};
@@ -12,10 +12,10 @@ use crate::byte_order;
 use crate::draws::GeometryParts;
 use crate::draws::geometry_of;
 use crate::render_mode;
-use frame::Drawn;
-use frame::Word;
+use draw::Drawn;
 use mode::CombinerUniform;
 use raster::Scissor;
+use words::Word;
 
 // Document 01's number and the count of pixels emitted, with repeats.
 #[repr(C)]
@@ -71,7 +71,7 @@ pub extern "C" fn wb_draw(
 {
     let m = render_mode(mode);
     let g = geometry_of(geometry);
-    let answer = frame::draw(
+    let answer = draw::draw(
         width,
         height,
         colors,
@@ -105,7 +105,7 @@ pub extern "C" fn wb_read_word(
     ensures { λ r. ⌜ r ≡ wordAnswer (readAnswer (readArgs pixel fmt siz «rgb_dither» (encodingOf «big_endian»)) width height (frameOf (now (colors .entry)) (now (coverages .entry)) (now (marks .entry)))) ⌝ }
 {
     let order = byte_order(big_endian);
-    word(frame::read_word(
+    word(words::read_word(
         width,
         height,
         colors,

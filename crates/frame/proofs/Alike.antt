@@ -1,5 +1,5 @@
--- One emitted pixel keeps frames alike, and so does a list of them: the step changes the five bytes of one pixel, which crate cell's laws keep alike, and no
--- other. The slices may have any lengths: what is stored past an end is lost on both frames. Numbers 1 to 3 are the same for alike frames. Assumes nothing.
+-- A pixel stored keeps frames alike: it changes the five bytes of one pixel and no other. The slices may have any lengths: what is stored past an end is lost
+-- on both frames. Numbers 1 to 3 are the same for alike frames. Assumes nothing.
 use Prim.Native.Nat.{ℕ, zero, suc, _+_, _*_}
 use mathlib.Core.Path.{_≡_, refl, sym, ap, subst, ap₂, _∙_}
 use mathlib.Core.Bool.{Bool, true, false, not, _&&_, _||_}
@@ -10,17 +10,13 @@ use native.Mathlib.Omega.{arith}
 use lib.Dec.{leb}
 use lib.ListN.{length, getD, set, length-set}
 use lib.Seq.{getD-set-other}
-use Rattle.mode.specs.declared.RenderMode.{RenderMode}
-use Rattle.combiner.specs.declared.Combiner.{Combiner}
 use Rattle.cell.specs.declared.Cell.{Cell}
 use Rattle.cell.specs.Marks.{colorMarked, coverageMarked}
-use Rattle.cell.specs.Rules.{cellStep}
 use Rattle.cell.specs.Alike.{AlikeCell}
-use Rattle.cell.proofs.Alike.{never, cell-alike}
-use Rattle.raster.specs.Emitted.{Emit}
-use Rattle.frame.specs.Frame.{Frame, cellAt, putCell, sourceOf, stepFrame, drawList}
+use Rattle.cell.proofs.Alike.{never}
+use Rattle.frame.specs.Frame.{Frame, cellAt, putCell}
 use Rattle.frame.specs.Checks.{lengthsOk, markOk, marksOk, frameRefusal}
-use Rattle.frame.specs.Runs.{Alike}
+use Rattle.frame.specs.Alike.{Alike}
 
 -- ---- one list
 -- what a test reads back is what was stored, unless nothing was
@@ -119,20 +115,6 @@ module _ (f g : Frame) (p : ℕ) (x y : Cell) (h : Alike f g) (c : AlikeCell x y
       at : (q : ℕ) → Dec (q ≡ p) → AlikeCell (cellAt (putCell f p x) q) (cellAt (putCell g p y) q)
       at q (yes e) = subst (λ (j : ℕ). AlikeCell (cellAt (putCell f p x) j) (cellAt (putCell g p y) j)) (sym e) here
       at q (no n) = rw (other f p q x n, other g p q y n) (h .cells q)
-
--- ---- one emitted pixel, and a list of them
-module _ (mode : RenderMode) (k : Combiner) where
-  pub step-alike : (f g : Frame) (e : Emit) → Alike f g → Alike (stepFrame mode k f e) (stepFrame mode k g e)
-  unfolding stepFrame
-  step-alike f g e h =
-      let x = cellAt f (e .pixel) in
-      let y = cellAt g (e .pixel) in
-      put-alike f g (e .pixel) (cellStep mode k (sourceOf e) x) (cellStep mode k (sourceOf e) y) h
-      (cell-alike mode k (sourceOf e) x y (h .cells (e .pixel)))
-
-  pub list-alike : (f g : Frame) (es : List Emit) → Alike f g → Alike (drawList mode k f es) (drawList mode k g es)
-  list-alike f g [] h = h
-  list-alike f g (e ∷ es) h = list-alike (stepFrame mode k f e) (stepFrame mode k g e) es (step-alike f g e h)
 
 -- ---- numbers 1 to 3 look at lengths, at marks and at known coverages
 mark-same : (m c d : ℕ) → (coverageMarked m ≡ true → c ≡ d) → markOk m c ≡ markOk m d

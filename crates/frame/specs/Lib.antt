@@ -1,7 +1,4 @@
--- The definitions that the contracts of `frame` cite, and those of the theorem on whole lists.
+-- The definitions that the contracts of `frame` cite, and when two frames are alike.
 pub mod Frame
-pub mod Parts
 pub mod Checks
-pub mod Draw
-pub mod Read
-pub mod Runs
+pub mod Alike

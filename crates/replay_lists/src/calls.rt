@@ -1,7 +1,6 @@
 // Each call: the port is asked with a line's arguments, and its answer held against the line's.
 use crate::text;
-use frame::Drawn;
-use frame::Word;
+use draw::Drawn;
 use pack::FramebufferEncoding;
 use raster::Geometry;
 use raster::Scissor;
@@ -14,6 +13,7 @@ use sheet::values::render_mode;
 use sheet::values::truth;
 use sheet::values::uniform;
 use sheet::values::within;
+use words::Word;
 
 // The number of a refusal, 0 for none, and the count of pixels or the word.
 struct Answer {
@@ -100,7 +100,7 @@ fn ask_draw(
     present: &[u8],
     indices: &[u32],
 ) -> Answer {
-    let answer = frame::draw(
+    let answer = draw::draw(
         width,
         height,
         colors,
@@ -256,7 +256,7 @@ fn ask_read(
     marks: &[u8],
     w: &Words,
 ) -> Answer {
-    let answer = frame::read_word(
+    let answer = words::read_word(
         width,
         height,
         colors,

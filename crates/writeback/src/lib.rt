@@ -56,7 +56,7 @@ pub use raster::admitted;
 pub use vertex::Vertex;
 
 // The frame.
-pub use frame::Drawn;
-pub use frame::Word;
-pub use frame::draw;
-pub use frame::read_word;
+pub use draw::Drawn;
+pub use draw::draw;
+pub use words::Word;
+pub use words::read_word;

@@ -1,7 +1,7 @@
 -- `exports::frames::drawn` meets its contract: arm by arm. Assumes nothing.
 use mathlib.Core.Path.{sym, ap}
-use Rattle.frame.specs.declared.Drawn.{Drawn}
-use Rattle.frame.specs.Draw.{drawnMeans}
+use Rattle.draw.specs.declared.Drawn.{Drawn}
+use Rattle.draw.specs.Draw.{drawnMeans}
 use Rattle.exports.specs.Frames.{drawnAnswer}
 use borrow.Author.Needs.{needs}
 use Rattle.exports.proofs.frames.drawn.Statement.{statement}

@@ -2,7 +2,7 @@
 use mathlib.Core.Path.{_≡_, ap, _∙_}
 use denote.Ref.{now}
 use Rattle.frame.specs.Frame.{frameOf}
-use Rattle.frame.specs.Draw.{DrawArgs, drawArgs, drawAnswer, drawFrame}
+use Rattle.draw.specs.Draw.{DrawArgs, drawArgs, drawAnswer, drawFrame}
 use Rattle.exports.specs.Convert.{modeOf}
 use Rattle.exports.specs.Draws.{geometryFrom}
 use Rattle.exports.specs.Frames.{drawnAnswer}

@@ -2,7 +2,7 @@
 use mathlib.Core.Path.{_≡_, ap, _∙_}
 use denote.Ref.{now}
 use Rattle.frame.specs.Frame.{frameOf}
-use Rattle.frame.specs.Read.{readArgs, readAnswer}
+use Rattle.words.specs.Read.{readArgs, readAnswer}
 use Rattle.exports.specs.Frames.{wordAnswer}
 use borrow.Author.Needs.{needs}
 use Rattle.exports.proofs.frames.wb_read_word.Statement.{statement}

@@ -1,7 +1,7 @@
 -- `exports::frames::word` meets its contract: arm by arm. Assumes nothing.
 use mathlib.Core.Path.{sym, ap}
-use Rattle.frame.specs.declared.Word.{Word}
-use Rattle.frame.specs.Read.{wordMeans}
+use Rattle.words.specs.declared.Word.{Word}
+use Rattle.words.specs.Read.{wordMeans}
 use Rattle.exports.specs.Frames.{wordAnswer}
 use borrow.Author.Needs.{needs}
 use Rattle.exports.proofs.frames.word.Statement.{statement}

@@ -3,7 +3,8 @@ use native.Mathlib.Omega.{arith}
 use Prim.Native.Nat.{_*_}
 use denote.Ref.{now}
 use Rattle.frame.specs.Frame.{frameOf}
-use Rattle.frame.proofs.Refusals.{was-true, was-false, sizes-le, lengths-same, first, second, third, none}
+use Rattle.frame.proofs.Tests.{was-true, was-false}
+use Rattle.frame.proofs.Refusals.{sizes-le, lengths-same, first, second, third, none}
 use borrow.Author.Needs.{needs}
 use Rattle.frame.proofs.checks.frame_refusal.Statement.{statement}
 use Rattle.frame.proofs.checks.frame_refusal.Tie as tie

@@ -1,6 +1,6 @@
 -- `lengths_ok` meets its contract.
 use borrow.Author.Tests.{eq-eqb, ne-eqb}
-use Rattle.frame.proofs.Refusals.{stops, goes-on}
+use Rattle.frame.proofs.Tests.{stops, goes-on}
 use mathlib.Core.Path.{refl}
 use borrow.Author.Needs.{needs}
 use Rattle.frame.proofs.checks.lengths_ok.Statement.{statement}

@@ -1,7 +1,7 @@
 -- `mark_ok` meets its contract: a coverage is looked at only where it is marked.
 use borrow.Author.Tests.{le-leb, lt-leb}
 use Rattle.frame.specs.Checks.{markOk}
-use Rattle.frame.proofs.Refusals.{was-true, was-false, stops, goes-on, excused, held-to}
+use Rattle.frame.proofs.Tests.{was-true, was-false, stops, goes-on, excused, held-to}
 use borrow.Author.Needs.{needs}
 use Rattle.frame.proofs.checks.mark_ok.Statement.{statement}
 use Rattle.frame.proofs.checks.mark_ok.Tie as tie

@@ -4,7 +4,8 @@ use Prim.Native.Nat.{_-_}
 use native.Mathlib.Omega.{arith}
 use lib.ListN.{length, drop}
 use Rattle.frame.specs.Checks.{marksOk}
-use Rattle.frame.proofs.Refusals.{was-true, was-false, marks-stop, marks-next, marks-done}
+use Rattle.frame.proofs.Tests.{was-true, was-false}
+use Rattle.frame.proofs.Refusals.{marks-stop, marks-next, marks-done}
 use Rattle.frame.proofs.checks.marks_ok.Statement.{statement}
 use Rattle.frame.proofs.checks.marks_ok.Tie as tie
 

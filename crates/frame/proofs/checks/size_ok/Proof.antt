@@ -1,6 +1,6 @@
 -- `size_ok` meets its contract.
 use borrow.Author.Tests.{le-leb, lt-leb}
-use Rattle.frame.proofs.Refusals.{stops, goes-on}
+use Rattle.frame.proofs.Tests.{stops, goes-on}
 use mathlib.Core.Path.{refl}
 use Rattle.frame.proofs.checks.size_ok.Statement.{statement}
 use Rattle.frame.proofs.checks.size_ok.Tie as tie

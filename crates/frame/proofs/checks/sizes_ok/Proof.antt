@@ -1,5 +1,5 @@
 -- `sizes_ok` meets its contract.
-use Rattle.frame.proofs.Refusals.{was-true, was-false, stops, goes-on}
+use Rattle.frame.proofs.Tests.{was-true, was-false, stops, goes-on}
 use borrow.Author.Needs.{needs}
 use Rattle.frame.proofs.checks.sizes_ok.Statement.{statement}
 use Rattle.frame.proofs.checks.sizes_ok.Tie as tie

@@ -1,0 +1,79 @@
+-- `draw_geometry` meets its contract, by what the geometry is.
+use mathlib.Core.Path.{_≡_, refl, subst}
+use mathlib.Core.Bool.{true}
+use denote.Ref.{now}
+use Rattle.raster.specs.declared.Geometry.{Geometry}
+use Rattle.raster.specs.Admitted.{admittedOf}
+use Rattle.draw.proofs.Shapes.{covers}
+use borrow.Author.Needs.{needs}
+use Rattle.draw.proofs.draw_geometry.Statement.{statement}
+use Rattle.draw.proofs.draw_geometry.Tie as tie
+
+enum-told : tie.Need-enum-told
+enum-told c = search needs
+
+enum-known-geometry : tie.Need-enum-known-geometry
+enum-known-geometry c = search needs
+
+draw-rectangle-requires : tie.Need-draw-rectangle-requires
+draw-rectangle-requires c κs = search needs
+
+enum-told-2 : tie.Need-enum-told-2
+enum-told-2 c = search needs
+
+draw-triangles-requires : tie.Need-draw-triangles-requires
+draw-triangles-requires c κs =
+    let s = c .before .before .before .before .before .before .before .before .before .before .before in
+    let a = s .args in (
+      s .pre .0,
+      (
+        subst (λ (g : Geometry). admittedOf (a .combiner) g (now (a .vertices)) (now (a .present)) (now (a .indices)) ≡ true) (c .before .before .before .enum-told2 .given .1) (s .pre .1 .0),
+        s .pre .1 .1,
+      ),
+    )
+
+returns : tie.Need-returns
+returns c = covers _ _ _ _ _ _ _ _ _ _ (c .enum-told .given .1) (record { ran = record { state = refl; count = refl }; fit = c .before .before .before .before .before .before .before .before .pre .1 .1 .1 .fit })
+
+same-length : tie.Need-same-length
+same-length c = search needs
+
+same-length-2 : tie.Need-same-length-2
+same-length-2 c = search needs
+
+same-length-3 : tie.Need-same-length-3
+same-length-3 c = search needs
+
+returns-2 : tie.Need-returns-2
+returns-2 c = covers _ _ _ _ _ _ _ _ _ _ (c .before .before .before .before .before .before .before .before .before .before .before .geometry .given .1) (c .before .before .before .before .before .before .draw-rectangle .ensures)
+
+same-length-4 : tie.Need-same-length-4
+same-length-4 c = search needs
+
+same-length-5 : tie.Need-same-length-5
+same-length-5 c = search needs
+
+same-length-6 : tie.Need-same-length-6
+same-length-6 c = search needs
+
+returns-3 : tie.Need-returns-3
+returns-3 c = covers _ _ _ _ _ _ _ _ _ _ (c .before .before .before .before .before .before .before .before .before .before .enum-told2 .given .1) (c .before .before .before .before .before .before .draw-triangles .ensures)
+
+pub draw-geometry-spec : {M : Type 1} → statement M
+draw-geometry-spec =
+    tie.close
+    (tie.spec
+    enum-told
+    enum-known-geometry
+    draw-rectangle-requires
+    enum-told-2
+    draw-triangles-requires
+    returns
+    same-length
+    same-length-2
+    same-length-3
+    returns-2
+    same-length-4
+    same-length-5
+    same-length-6
+    returns-3)

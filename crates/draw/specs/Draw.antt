@@ -1,0 +1,110 @@
+-- A draw: it is turned away with a number, or carried out on the pixels that it emits. Definitions only. Source: document 01, "The frame (ours)" and "Why
+-- something is turned away".
+use Prim.Native.Nat.{ℕ, zero, suc, _≤_}
+use mathlib.Core.Bool.{Bool, cond}
+use mathlib.Core.List.{List}
+use lib.Ieee.{Float}
+use lib.ListN.{length}
+use Rattle.mode.specs.declared.RenderMode.{RenderMode}
+use Rattle.mode.specs.declared.CombinerUniform.{CombinerUniform}
+use Rattle.combiner.specs.declared.Combiner.{Combiner}
+use Rattle.combiner.specs.declared.Made.{Made}
+use Rattle.combiner.specs.declared.Made.the-variants.{With, Without}
+use Rattle.combiner.specs.New.{newOf}
+use Rattle.raster.specs.declared.Scissor.{Scissor}
+use Rattle.raster.specs.declared.Geometry.{Geometry}
+use Rattle.raster.specs.Admitted.{admittedOf}
+use Rattle.raster.specs.Emitted.{Emit, geometryEmits}
+use Rattle.draw.specs.declared.Accepted.{Accepted}
+use Rattle.draw.specs.declared.Accepted.the-variants as accepted
+use Rattle.draw.specs.declared.Drawn.{Drawn}
+use Rattle.draw.specs.declared.Drawn.the-variants.{Emitted, Refused}
+use Rattle.frame.specs.Frame.{Frame}
+use Rattle.draw.specs.Steps.{drawList}
+use Rattle.draw.specs.Checks.{entryRefusal}
+
+-- everything that a draw carries but the frame
+pub record DrawArgs : Type 0 where
+  pub mode : RenderMode
+  pub uniform : CombinerUniform
+  pub cull : Bool
+  pub scissor : Scissor
+  pub geometry : Geometry
+  pub vertices : List Float
+  pub present : List ℕ
+  pub indices : List ℕ
+
+abbrev pub drawArgs : RenderMode → CombinerUniform → Bool → Scissor → Geometry → List Float → List ℕ → List ℕ → DrawArgs
+drawArgs mode uniform cull scissor geometry vertices present indices =
+    record {
+      mode = mode;
+      uniform = uniform;
+      cull = cull;
+      scissor = scissor;
+      geometry = geometry;
+      vertices = vertices;
+      present = present;
+      indices = indices;
+    }
+
+-- turned away with a number, or a combiner and the pixels that it emits
+pub data Plan : Type 0 where
+  refuse : ℕ → Plan
+  accept : Combiner → List Emit → Plan
+
+-- the pixels that a draw emits in a frame of w by h
+abbrev pub emittedBy : DrawArgs → ℕ → ℕ → Combiner → List Emit
+emittedBy d w h k = geometryEmits (d .mode) k (d .cull) (d .scissor) w h (d .vertices) (d .present) (d .indices) (d .geometry)
+
+-- 7: the geometry is nothing, or `admitted` answers false
+abbrev pub admittedPlan : DrawArgs → ℕ → ℕ → Combiner → Plan
+admittedPlan d w h k =
+    cond (admittedOf k (d .geometry) (d .vertices) (d .present) (d .indices)) (Plan.accept k (emittedBy d w h k)) (Plan.refuse 7)
+
+-- 6: `Combiner::new` answers None
+abbrev pub madePlan : DrawArgs → ℕ → ℕ → Made → Plan
+madePlan d w h Without = Plan.refuse 6
+madePlan d w h (With k) = admittedPlan d w h k
+
+-- 1 to 5 come first
+abbrev pub refuseOr : ℕ → Plan → Plan
+refuseOr zero plan = plan
+refuseOr (suc n) plan = Plan.refuse (suc n)
+
+unfoldable pub planOf : DrawArgs → ℕ → ℕ → Frame → Plan
+planOf d w h f =
+    refuseOr (entryRefusal f w h (d .scissor) (d .vertices) (d .present) (d .indices)) (madePlan d w h (newOf (d .uniform) (d .mode)))
+
+-- what the code's checks answer, as a plan
+abbrev pub planBy : DrawArgs → ℕ → ℕ → Accepted → Plan
+planBy d w h (accepted.With k) = Plan.accept k (emittedBy d w h k)
+planBy d w h (accepted.Refused n) = Plan.refuse n
+
+-- an answer in document 01's terms: its number, and the count of pixels emitted, with repeats
+pub record DrawAnswer : Type 0 where
+  pub number : ℕ
+  pub pixels : ℕ
+
+abbrev pub drawnMeans : Drawn → DrawAnswer
+drawnMeans (Emitted n) = record { number = 0; pixels = n }
+drawnMeans (Refused k) = record { number = k; pixels = 0 }
+
+-- a draw that is turned away has a number of the list
+abbrev pub Numbered : Drawn → Type 0
+Numbered (Emitted n) = Unit
+Numbered (Refused k) = 1 ≤ k
+
+abbrev pub answerBy : Plan → DrawAnswer
+answerBy (Plan.refuse k) = record { number = k; pixels = 0 }
+answerBy (Plan.accept k es) = record { number = 0; pixels = length es }
+
+-- the frame after: unchanged where the draw is turned away
+abbrev pub frameBy : RenderMode → Plan → Frame → Frame
+frameBy mode (Plan.refuse k) f = f
+frameBy mode (Plan.accept k es) f = drawList mode k f es
+
+unfoldable pub drawAnswer : DrawArgs → ℕ → ℕ → Frame → DrawAnswer
+drawAnswer d w h f = answerBy (planOf d w h f)
+
+unfoldable pub drawFrame : DrawArgs → ℕ → ℕ → Frame → Frame
+drawFrame d w h f = frameBy (d .mode) (planOf d w h f) f

@@ -1,0 +1,221 @@
+-- Demand 3. Of a call the theorem needs three facts, for frames of any shape: on alike frames it answers the same, it leaves alike frames alike, and mark 1 is
+-- after it as its last verdict said. Part 1 shows them of a word read, part 2 of a draw, part 3 carries them along a list. A further kind of call is a
+-- further constructor with its three facts. Assumes nothing.
+use Prim.Native.Nat.{ℕ, zero, suc, _*_, _<_}
+use mathlib.Core.Path.{_≡_, refl, sym, ap, ap₂, subst, _∙_}
+use mathlib.Core.Bool.{Bool, true, false, cond, not, _&&_, _||_}
+use mathlib.Core.List.{List, [], _∷_, _++_}
+use native.Mathlib.Decide.{ℕ-discrete}
+use native.Mathlib.Omega.{arith}
+use borrow.Author.Tests.{eq-eqb, ne-eqb}
+use lib.Dec.{eqb, ltb}
+use lib.ListN.{length, getD, set}
+use lib.Seq.{getD-set-same, getD-set-other}
+use Rattle.mode.specs.declared.RenderMode.{RenderMode}
+use Rattle.combiner.specs.declared.Combiner.{Combiner}
+use Rattle.combiner.specs.declared.Made.{Made}
+use Rattle.combiner.specs.declared.Made.the-variants.{With, Without}
+use Rattle.combiner.specs.New.{newOf}
+use Rattle.pack.specs.Writer.{supportedOf}
+use Rattle.cell.specs.declared.Cell.{Cell}
+use Rattle.cell.specs.Marks.{colorMarked, coverageMarked}
+use Rattle.cell.specs.Rules.{cellStep}
+use Rattle.cell.specs.Alike.{AlikeCell}
+use Rattle.cell.proofs.Alike.{same-coverage, color-after}
+use Rattle.raster.specs.Admitted.{admittedOf}
+use Rattle.raster.specs.Emitted.{Emit}
+use Rattle.frame.specs.Frame.{Frame, cellAt}
+use Rattle.draw.specs.Steps.{sourceOf, stepFrame, drawList}
+use Rattle.frame.specs.Checks.{frameRefusal, orElse}
+use Rattle.draw.specs.Checks.{scissorOk, inputsOk, entryRefusal}
+use Rattle.draw.specs.Draw.{DrawArgs, Plan, emittedBy, admittedPlan, madePlan, refuseOr, planOf, answerBy, frameBy, drawAnswer, drawFrame}
+use Rattle.words.specs.Read.{ReadArgs, writerOf, wordRefusal, readRefusal, wordOf, wordOr, readAnswer}
+use Rattle.secrecy.specs.Runs.{Call, Answer, Said, answerTo, frameAfter, answers, after, verdictAt, verdicts, saidByPlan, saidBy, said, lastAt, knownAt, Secret}
+use Rattle.frame.specs.Alike.{Alike}
+use Rattle.secrecy.proofs.Alike.{list-alike}
+use Rattle.frame.proofs.Alike.{refusal-same}
+use Rattle.draw.proofs.Fits.{step-marks}
+use Rattle.frame.proofs.Fits.{accepted}
+use Rattle.secrecy.proofs.Inside.{Below, emitted-below}
+
+-- ---- part 1: a word read
+-- a word that is not refused has a known colour
+word-marked : (r : ReadArgs) (w n : ℕ) (x : Cell) → wordRefusal r w n x ≡ 0 → colorMarked (x .mark) ≡ true
+unfolding wordRefusal
+word-marked r w n x p = go (ltb (r .pixel) n) (supportedOf (writerOf r w)) (colorMarked (x .mark)) p
+  where
+    go :
+        (a b c : Bool) → _≡_ {A = ℕ} (cond a (cond b (cond (c && (coverageMarked (x .mark) || not (eqb (r .siz) 2))) 0 10) 9) 8) 0
+        → c ≡ true
+    go false b c q = absurd (omega arith)
+    go true false c q = absurd (omega arith)
+    go true true false q = absurd (omega arith)
+    go true true true q = refl
+
+read-marked : (r : ReadArgs) (w h : ℕ) (f : Frame) → readRefusal r w h f ≡ 0 → colorMarked (cellAt f (r .pixel) .mark) ≡ true
+unfolding readRefusal
+read-marked r w h f p = word-marked r w (w * h) (cellAt f (r .pixel)) (go (frameRefusal f w h) p)
+  where
+    go : (k : ℕ) → orElse k (wordRefusal r w (w * h) (cellAt f (r .pixel))) ≡ 0 → wordRefusal r w (w * h) (cellAt f (r .pixel)) ≡ 0
+    go zero q = q
+    go (suc k) q = absurd (omega arith)
+
+word-same : (r : ReadArgs) (w : ℕ) (x y : Cell) → AlikeCell x y → colorMarked (x .mark) ≡ true → wordOf r w x ≡ wordOf r w y
+unfolding wordOf
+word-same r w x y h t = rw (h .red t, h .green t, h .blue t, same-coverage h)
+
+module _ (w h : ℕ) {f g : Frame} (a : Alike f g) (r : ReadArgs) where
+  read-refusal-same : readRefusal r w h f ≡ readRefusal r w h g
+  unfolding readRefusal wordRefusal
+  read-refusal-same = rw (refusal-same w h a, a .marks)
+
+  read-same : readAnswer r w h f ≡ readAnswer r w h g
+  unfolding readAnswer
+  read-same =
+      go (readRefusal r w h f) refl ∙ ap (λ (k : ℕ). wordOr k (wordOf r w (cellAt g (r .pixel)))) read-refusal-same
+    where
+      go : (k : ℕ) → readRefusal r w h f ≡ k → wordOr k (wordOf r w (cellAt f (r .pixel))) ≡ wordOr k (wordOf r w (cellAt g (r .pixel)))
+      go zero e =
+          ap (wordOr 0) (word-same r w (cellAt f (r .pixel)) (cellAt g (r .pixel)) (a .cells (r .pixel)) (read-marked r w h f e))
+      go (suc k) e = refl
+
+-- ---- part 2: a draw. The frame enters its plan only by numbers 1 to 3
+module _ (w h : ℕ) {f g : Frame} (a : Alike f g) (d : DrawArgs) where
+  plan-same : planOf d w h f ≡ planOf d w h g
+  unfolding planOf entryRefusal
+  plan-same = rw (refusal-same w h a)
+
+  draw-same : drawAnswer d w h f ≡ drawAnswer d w h g
+  unfolding drawAnswer
+  draw-same = ap answerBy plan-same
+
+  draw-alike : Alike (drawFrame d w h f) (drawFrame d w h g)
+  unfolding drawFrame
+  draw-alike = rw plan-same (go (planOf d w h g))
+    where
+      go : (plan : Plan) → Alike (frameBy (d .mode) plan f) (frameBy (d .mode) plan g)
+      go (Plan.refuse n) = a
+      go (Plan.accept k es) = list-alike (d .mode) k f g es a
+
+-- mark 1 of pixel p after an emitted pixel, and after a list of them
+module _ (mode : RenderMode) (k : Combiner) (p : ℕ) where
+  step-mark :
+      (f : Frame) (e : Emit) → e .pixel < length (f .marks)
+      → knownAt p (stepFrame mode k f e) ≡ cond (eqb (e .pixel) p) (verdictAt mode f e) (knownAt p f)
+  unfolding stepFrame
+  step-mark f e l = go (ℕ-discrete (e .pixel) p)
+    where
+      q : ℕ
+      q = e .pixel
+
+      mark : ℕ
+      mark = cellStep mode k (sourceOf e) (cellAt f q) .mark
+
+      go : Dec (q ≡ p) → colorMarked (getD (set (f .marks) q mark) p 0) ≡ cond (eqb q p) (verdictAt mode f e) (colorMarked (getD (f .marks) p 0))
+      go (yes r) =
+          rw (eq-eqb q p r)
+          (subst (λ (j : ℕ). colorMarked (getD (set (f .marks) q mark) j 0) ≡ verdictAt mode f e) r
+          (rw (getD-set-same (f .marks) q mark 0 l) (color-after mode k (sourceOf e) (cellAt f q))))
+      go (no n) = rw (ne-eqb q p n, getD-set-other (f .marks) q p mark 0 (λ (r : p ≡ q). n (sym r)))
+
+  list-mark :
+      (f : Frame) (es : List Emit) → Below (length (f .marks)) es → knownAt p (drawList mode k f es) ≡ lastAt p (verdicts mode k f es) (knownAt p f)
+  list-mark f [] b = refl
+  list-mark f (e ∷ es) (Below.more l b) =
+      list-mark (stepFrame mode k f e) es (subst (λ (n : ℕ). Below n es) (sym (step-marks mode k f e)) b)
+      ∙ ap (lastAt p (verdicts mode k (stepFrame mode k f e) es)) (step-mark f e l)
+
+-- what a plan emits has mark bytes: the frame is not refused, and a draw emits only pixels of the frame
+Placed : ℕ → Plan → Type 0
+Placed n (Plan.refuse k) = Below n []
+Placed n (Plan.accept k es) = Below n es
+
+module _ (w h : ℕ) (d : DrawArgs) {n : ℕ} (e : w * h ≡ n) where
+  placed-admitted : (k : Combiner) → Placed n (admittedPlan d w h k)
+  unfolding Placed
+  placed-admitted k = go (admittedOf k (d .geometry) (d .vertices) (d .present) (d .indices))
+    where
+      go : (b : Bool) → Placed n (cond b (Plan.accept k (emittedBy d w h k)) (Plan.refuse 7))
+      go true = subst (λ (m : ℕ). Below m (emittedBy d w h k)) e (emitted-below d w h k)
+      go false = Below.none
+
+  placed-made : (m : Made) → Placed n (madePlan d w h m)
+  unfolding Placed
+  placed-made Without = Below.none
+  placed-made (With k) = placed-admitted k
+
+module _ (w h : ℕ) (d : DrawArgs) (f : Frame) where
+  placed : Placed (length (f .marks)) (planOf d w h f)
+  unfolding planOf entryRefusal Placed
+  placed = go (frameRefusal f w h) refl (cond (scissorOk (d .scissor)) (cond (inputsOk (d .vertices) (d .present) (d .indices)) 0 5) 4)
+    where
+      go :
+          (r : ℕ) → frameRefusal f w h ≡ r → (q : ℕ)
+          → Placed (length (f .marks)) (refuseOr (orElse r q) (madePlan d w h (newOf (d .uniform) (d .mode))))
+      go zero e zero = placed-made w h d (sym (accepted f w h e .fit .marks)) (newOf (d .uniform) (d .mode))
+      go zero e (suc q) = Below.none
+      go (suc r) e q = Below.none
+
+  draw-mark : (p : ℕ) → knownAt p (drawFrame d w h f) ≡ lastAt p (saidBy w h (Call.draw d) f) (knownAt p f)
+  unfolding drawFrame saidBy Placed
+  draw-mark p = go (planOf d w h f) placed
+    where
+      go : (plan : Plan) → Placed (length (f .marks)) plan → knownAt p (frameBy (d .mode) plan f) ≡ lastAt p (saidByPlan (d .mode) f plan) (knownAt p f)
+      go (Plan.refuse k) b = refl
+      go (Plan.accept k es) b = list-mark (d .mode) k p f es b
+
+-- ---- part 3: any list
+-- the three facts of a call
+record Keeps (w h : ℕ) (o : Call) : Type 0 where
+  same : (f g : Frame) → Alike f g → answerTo w h o f ≡ answerTo w h o g
+  alike : (f g : Frame) → Alike f g → Alike (frameAfter w h o f) (frameAfter w h o g)
+  marked : (f : Frame) (p : ℕ) → knownAt p (frameAfter w h o f) ≡ lastAt p (saidBy w h o f) (knownAt p f)
+
+last-append : (p : ℕ) (ss ts : List Said) (b : Bool) → lastAt p (ss ++ ts) b ≡ lastAt p ts (lastAt p ss b)
+last-append p [] ts b = refl
+last-append p (s ∷ ss) ts b = last-append p ss ts (cond (eqb (s .pixel) p) (s .verdict) b)
+
+module _ (w h : ℕ) where
+  keeps : (o : Call) → Keeps w h o
+  unfolding saidBy
+  keeps (Call.draw d) =
+      record {
+        same = λ f g a. ap Answer.drawn (draw-same w h a d);
+        alike = λ f g a. draw-alike w h a d;
+        marked = λ f p. draw-mark w h d f p;
+      }
+  keeps (Call.read r) =
+      record {
+        same = λ f g a. ap Answer.word (read-same w h a r);
+        alike = λ f g a. a;
+        marked = λ f p. refl;
+      }
+
+  same-answers : (os : List Call) (f g : Frame) → Alike f g → answers w h os f ≡ answers w h os g
+  same-answers [] f g a = refl
+  same-answers (o ∷ os) f g a =
+      ap₂ (λ (x : Answer) (xs : List Answer). x ∷ xs) (keeps o .same f g a)
+      (same-answers os (frameAfter w h o f) (frameAfter w h o g) (keeps o .alike f g a))
+
+  alike-after : (os : List Call) (f g : Frame) → Alike f g → Alike (after w h os f) (after w h os g)
+  alike-after [] f g a = a
+  alike-after (o ∷ os) f g a = alike-after os (frameAfter w h o f) (frameAfter w h o g) (keeps o .alike f g a)
+
+  marked-after : (os : List Call) (f : Frame) (p : ℕ) → knownAt p (after w h os f) ≡ lastAt p (said w h os f) (knownAt p f)
+  marked-after [] f p = refl
+  marked-after (o ∷ os) f p =
+      marked-after os (frameAfter w h o f) p
+      ∙ ap (lastAt p (said w h os (frameAfter w h o f))) (keeps o .marked f p)
+      ∙ sym (last-append p (saidBy w h o f) (said w h os (frameAfter w h o f)) (knownAt p f))
+
+-- For every list of draws and word reads, refused ones included, made in order on two frames that are alike in sizes, slice lengths, marks, known colours and
+-- known coverages: the answers are the same from first to last, the frames are alike after it, and on each a pixel's colour is then marked known exactly when F1
+-- and F2 said yes to the last pixel that the list's accepted draws emitted there, or, if they emitted none there, when it was so marked at the start.
+pub secret : (w h : ℕ) (os : List Call) (f g : Frame) → Alike f g → Secret w h os f g
+secret w h os f g a =
+    record {
+      same = same-answers w h os f g a;
+      alike = alike-after w h os f g a;
+      marked = marked-after w h os f;
+      marked′ = marked-after w h os g;
+    }

@@ -1,0 +1,2 @@
+-- The definitions of the theorem on whole lists of calls.
+pub mod Runs

@@ -1,0 +1,122 @@
+// The word of one pixel of the lent frame: numbers 1 to 3 and 8 to 10, and the two bytes. A colour byte is read after number 10 let it through, a coverage only
+// where it is marked.
+ghost use mathlib.Core.Path.{_≡_};
+ghost use Prim.Native.Nat.{_<_, _≤_};
+ghost use lib.ListN.{length, getD};
+ghost use Rattle.cell.specs.Marks.{coverageOf};
+ghost use Rattle.cell.specs.Rules.{orZero};
+ghost use Rattle.frame.specs.Frame.{Fit, frameOf, cellAt};
+ghost use Rattle.words.specs.Read.{readable, writerBy, wordBy, readArgs, wordMeans, readAnswer, Numbered};
+use pack::Bytes2;
+use pack::FramebufferEncoding;
+use pack::ImageLayout;
+use pack::Literal;
+use pack::Rgba8;
+use pack::Writer;
+
+pub enum Word {
+    Bytes(u8, u8),
+    Refused(u8),
+}
+
+// A colour writer of the frame's width.
+fn writer(width: u32, fmt: u8, siz: u8) -> Writer
+    ensures { λ r. ⌜ r ≡ writerBy width fmt siz ⌝ }
+{
+    let layout = ImageLayout { fmt, siz, width };
+    Writer {
+        layout,
+        depth: false,
+    }
+}
+
+// Number 10 does not hold.
+fn is_readable(mark: u8, siz: u8) -> bool
+    ensures { λ r. ⌜ r ≡ readable mark siz ⌝ }
+{
+    if !cell::color_marked(mark) {
+        return false;
+    }
+    if cell::coverage_marked(mark) {
+        return true;
+    }
+    siz != 2
+}
+
+fn known_coverage(coverages: &[u8], marks: &[u8], pixel: usize) -> u8
+    requires { ⌜ (pixel < length (now coverages)) × (pixel < length (now marks)) ⌝ }
+    ensures { λ r. ⌜ r ≡ orZero (coverageOf (getD (now (marks .entry)) pixel 0) (getD (now (coverages .entry)) pixel 0)) ⌝ }
+{
+    let mark = marks[pixel];
+    if cell::coverage_marked(mark) {
+        let coverage = coverages[pixel];
+        return coverage;
+    }
+    0
+}
+
+// `encode`'s two bytes, without a literal.
+fn encoded(
+    colors: &[u8],
+    coverages: &[u8],
+    marks: &[u8],
+    writer: Writer,
+    pixel: usize,
+    rgb_dither: u8,
+    encoding: FramebufferEncoding,
+) -> Bytes2
+    requires { ⌜ (writer .layout .siz ≤ 3) × (0 < writer .layout .width) ⌝ ∗ ⌜ pixel < length (now marks) ⌝ ∗ ⌜ Fit (length (now marks)) (frameOf (now colors) (now coverages) (now marks)) ⌝ }
+    ensures { λ r. ⌜ r ≡ wordBy writer pixel «rgb_dither» encoding (cellAt (frameOf (now (colors .entry)) (now (coverages .entry)) (now (marks .entry))) pixel) ⌝ }
+{
+    let red_at = 3 * pixel;
+    let green_at = red_at + 1;
+    let blue_at = red_at + 2;
+    let r = colors[red_at];
+    let g = colors[green_at];
+    let b = colors[blue_at];
+    let coverage = known_coverage(coverages, marks, pixel);
+    let rgba = Rgba8 { r, g, b, a: 0 };
+    writer.encode(rgba, coverage, pixel, Literal::Absent, rgb_dither, encoding)
+}
+
+// The word of a pixel, where its colour, and its coverage for 16 bits, is known: numbers 1 to 3 and 8 to 10.
+pub fn read_word(
+    width: u32,
+    height: u32,
+    colors: &[u8],
+    coverages: &[u8],
+    marks: &[u8],
+    pixel: usize,
+    fmt: u8,
+    siz: u8,
+    rgb_dither: u8,
+    encoding: FramebufferEncoding,
+) -> Word
+    ensures { λ r. ⌜ wordMeans r ≡ readAnswer (readArgs pixel fmt siz «rgb_dither» encoding) width height (frameOf (now (colors .entry)) (now (coverages .entry)) (now (marks .entry))) ⌝ ∗ ⌜ Numbered r ⌝ }
+{
+    let refusal = frame::checks::frame_refusal(colors, coverages, marks, width, height);
+    if refusal != 0 {
+        return Word::Refused(refusal);
+    }
+    if marks.len() <= pixel {
+        return Word::Refused(8);
+    }
+    let writer = writer(width, fmt, siz);
+    if !writer.supported() {
+        return Word::Refused(9);
+    }
+    let mark = marks[pixel];
+    if !is_readable(mark, siz) {
+        return Word::Refused(10);
+    }
+    let word = encoded(
+        colors,
+        coverages,
+        marks,
+        writer,
+        pixel,
+        rgb_dither,
+        encoding,
+    );
+    Word::Bytes(word.0, word.1)
+}
