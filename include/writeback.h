@@ -1,10 +1,12 @@
 /*
- * The pixel write-back port for C: its single-pixel layer, and a draw pixel by pixel.
+ * The pixel write-back port for C: draws and word reads over a lent frame, the single-pixel calls, and a test entry for what one pixel of a draw emits.
  *
- * Every function is total, keeps no state and writes no memory; it takes and gives plain values, but for the lists of a draw, which it only reads. What each
- * answers is proved: the contracts stand in crates/exports/src, the definitions that they cite in the specs/ of the crates below it.
+ * Every function is total and keeps no state. It takes and gives plain values, but for lists, which are lent for the call: a list is given by where it starts, which is not
+ * NULL even of an empty one, and how many elements it has. Only wb_draw writes, and only the frame's three lists, which overlap no other list of the call. What each function
+ * answers is proved: the contracts stand in crates/exports/src, the definitions that they cite in the specs/ of the crates below it. c/run.sh holds this file to those crates
+ * and calls every function from C.
  *
- * A number that an enum lacks stands for the enum's last case.
+ * A number that an enum lacks stands for the enum's last case, but for a geometry's kind.
  */
 #ifndef WRITEBACK_H
 #define WRITEBACK_H
@@ -232,7 +234,7 @@ wb_answer wb_blend(wb_mode mode, wb_combiner combiner, wb_rgba rgba, wb_rgba mem
 wb_answer wb_pack_color(uint32_t rgba, uint8_t coverage, uint8_t dither);
 uint32_t wb_pack_depth(float depth);
 
-/* An image is named by its fmt, siz and width, and by whether it holds depths. */
+/* An image is named by its fmt, siz and width, and by whether it holds depths. These two ask about the format, and do not look at the width. */
 wb_answer wb_supported(uint8_t fmt, uint8_t siz, uint32_t width, bool depth);
 wb_answer wb_pixel_bytes(uint8_t fmt, uint8_t siz, uint32_t width, bool depth);
 
@@ -240,8 +242,8 @@ wb_answer wb_pixel_bytes(uint8_t fmt, uint8_t siz, uint32_t width, bool depth);
 wb_answer wb_encode(uint8_t fmt, uint8_t siz, uint32_t width, bool depth, uint32_t rgba, uint8_t coverage, uint32_t pixel, bool literal, uint32_t word,
                     uint8_t rgb_dither, bool big_endian);
 
-/* ---- a draw. A list is given by where it starts and how many elements it has: six floats for each vertex, x, y, red, green, blue and alpha; a byte for each
- * vertex, 1 where it is present; and three indices for each triangle. */
+/* ---- what a draw covers. Its lists have six floats for each vertex, x, y, red, green, blue and alpha; a byte for each vertex, 1 where it is present; and three indices for
+ * each triangle. */
 
 /* Whether a vertex may stand here. */
 bool wb_in_range(float x, float y);
@@ -256,7 +258,7 @@ wb_fragment wb_pixel(wb_mode mode, wb_combiner combiner, bool cull, wb_geometry 
                      const uint8_t *present, size_t present_len, const uint32_t *indices, size_t indices_len, size_t i, uint32_t y, uint32_t x);
 
 /* ---- the frame: width * height pixels in three lists, three colour bytes, one coverage and one mark for each. Mark 1 says that a colour is known, mark 2 that a
- * coverage is. A list is lent for the call. */
+ * coverage is; a mark byte is their sum. */
 
 typedef struct {
     uint32_t left, top, width, height;

@@ -1,55 +1,17 @@
 // The C interface of the frame: a draw and a word read over three lent slices of colour bytes, coverages and marks.
 ghost use mathlib.Core.Path.{_≡_};
 ghost use Rattle.frame.specs.Frame.{frameOf};
-ghost use Rattle.draw.specs.Draw.{drawArgs, drawnMeans, drawAnswer, drawFrame};
-ghost use Rattle.words.specs.Read.{readArgs, wordMeans, readAnswer};
-ghost use Rattle.exports.specs.Convert.{modeOf, encodingOf};
-ghost use Rattle.exports.specs.Draws.{geometryFrom};
-ghost use Rattle.exports.specs.Frames.{drawnAnswer, wordAnswer};
-use crate::Answer;
-use crate::Mode;
-use crate::byte_order;
-use crate::draws::GeometryParts;
-use crate::draws::geometry_of;
-use crate::render_mode;
-use draw::Drawn;
+ghost use Rattle.draw.specs.Draw.{drawArgs, drawAnswer, drawFrame};
+ghost use Rattle.words.specs.Read.{readArgs, readAnswer};
+ghost use Rattle.c_types.specs.Convert.{modeOf, encodingOf};
+ghost use Rattle.c_draw.specs.Draws.{geometryFrom};
+ghost use Rattle.c_frame.specs.Frames.{drawnAnswer, wordAnswer};
+use c_answers::Answer;
+use c_draw::GeometryParts;
+use c_frame::DrawnAnswer;
+use c_types::Mode;
 use mode::CombinerUniform;
 use raster::Scissor;
-use words::Word;
-
-// Document 01's number and the count of pixels emitted, with repeats.
-#[repr(C)]
-pub struct DrawnAnswer {
-    pub number: u32,
-    pub pixels: u64,
-}
-
-fn drawn(answer: Drawn) -> DrawnAnswer
-    ensures { λ r. ⌜ r ≡ drawnAnswer (drawnMeans answer) ⌝ }
-{
-    match answer {
-        Drawn::Emitted(pixels) => DrawnAnswer { number: 0, pixels },
-        Drawn::Refused(number) => DrawnAnswer {
-            number: number as u32,
-            pixels: 0,
-        },
-    }
-}
-
-fn word(answer: Word) -> Answer
-    ensures { λ r. ⌜ r ≡ wordAnswer (wordMeans answer) ⌝ }
-{
-    match answer {
-        Word::Bytes(first, second) => Answer {
-            number: 0,
-            value: (first as u32) + (second as u32) * 256,
-        },
-        Word::Refused(number) => Answer {
-            number: number as u32,
-            value: 0,
-        },
-    }
-}
 
 #[no_mangle]
 pub extern "C" fn wb_draw(
@@ -69,24 +31,21 @@ pub extern "C" fn wb_draw(
 ) -> DrawnAnswer
     ensures { λ r. ⌜ r ≡ drawnAnswer (drawAnswer (drawArgs (modeOf mode) uniform cull scissor (geometryFrom geometry) (now (vertices .entry)) (now (present .entry)) (now (indices .entry))) width height (frameOf (now (colors .entry)) (now (coverages .entry)) (now (marks .entry)))) ⌝ ∗ ⌜ frameOf (now (colors .exit)) (now (coverages .exit)) (now (marks .exit)) ≡ drawFrame (drawArgs (modeOf mode) uniform cull scissor (geometryFrom geometry) (now (vertices .entry)) (now (present .entry)) (now (indices .entry))) width height (frameOf (now (colors .entry)) (now (coverages .entry)) (now (marks .entry))) ⌝ }
 {
-    let m = render_mode(mode);
-    let g = geometry_of(geometry);
-    let answer = draw::draw(
+    c_frame::draw(
         width,
         height,
         colors,
         coverages,
         marks,
-        m,
+        mode,
         uniform,
         cull,
         scissor,
-        g,
+        geometry,
         vertices,
         present,
         indices,
-    );
-    drawn(answer)
+    )
 }
 
 #[no_mangle]
@@ -104,8 +63,7 @@ pub extern "C" fn wb_read_word(
 ) -> Answer
     ensures { λ r. ⌜ r ≡ wordAnswer (readAnswer (readArgs pixel fmt siz «rgb_dither» (encodingOf «big_endian»)) width height (frameOf (now (colors .entry)) (now (coverages .entry)) (now (marks .entry)))) ⌝ }
 {
-    let order = byte_order(big_endian);
-    word(words::read_word(
+    c_frame::read_word(
         width,
         height,
         colors,
@@ -115,6 +73,6 @@ pub extern "C" fn wb_read_word(
         fmt,
         siz,
         rgb_dither,
-        order,
-    ))
+        big_endian,
+    )
 }

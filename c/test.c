@@ -1,0 +1,762 @@
+/*
+ * The C interface, called from C: the layout of the header's structs, document 01's rules and the rows of its proved table, draws on a small frame, every number that a
+ * call is turned away with, and then the recorded answers of the Rust original (recorded.c). What is expected is worked out from document 01 and the Rust, never
+ * taken from the library. Valid as C11 and as C++11; run.sh builds and runs it as both.
+ */
+#include "check.h"
+#include "writeback.h"
+
+#include <assert.h>
+#include <math.h>
+#include <stdio.h>
+#include <string.h>
+
+/* ---- the layout: the fields in the order of the Rattle structs, each at its natural alignment */
+
+static_assert(sizeof(wb_rgba) == 16, "four floats");
+static_assert(offsetof(wb_rgba, a) == 12, "alpha is last");
+
+static_assert(sizeof(wb_mode) == 28, "25 bytes and the padding of a uint32_t");
+static_assert(offsetof(wb_mode, blender_mux) == 4, "behind cycle_type");
+static_assert(offsetof(wb_mode, rgb_dither) == 6, "behind blender_mux");
+static_assert(offsetof(wb_mode, cvg_dst) == 8, "the third byte");
+static_assert(offsetof(wb_mode, alpha_compare) == 12, "the last number");
+static_assert(offsetof(wb_mode, key_enabled) == 13, "the first flag");
+static_assert(offsetof(wb_mode, antialias) == 15, "the third flag");
+static_assert(offsetof(wb_mode, force_blend) == 18, "the sixth flag");
+static_assert(offsetof(wb_mode, cvg_x_alpha) == 24, "the last flag");
+
+static_assert(sizeof(wb_uniform) == 240, "sixty words");
+static_assert(offsetof(wb_uniform, tex_enable) == 12, "the fourth word");
+static_assert(offsetof(wb_uniform, prim) == 32, "behind eight words");
+static_assert(offsetof(wb_uniform, fog_color) == 80, "the fourth colour");
+static_assert(offsetof(wb_uniform, lod_params) == 128, "behind two sizes");
+static_assert(offsetof(wb_uniform, frame) == 160, "behind four sets of floats");
+static_assert(offsetof(wb_uniform, fill_siz) == 188, "the last single word");
+static_assert(offsetof(wb_uniform, raster) == 224, "the last four words");
+
+static_assert(sizeof(wb_combiner) == 76, "eight bytes and seventeen floats");
+static_assert(offsetof(wb_combiner, prim) == 8, "behind the selectors");
+static_assert(offsetof(wb_combiner, lod) == 72, "last");
+
+static_assert(sizeof(wb_answer) == 8 && offsetof(wb_answer, value) == 4, "two words");
+static_assert(sizeof(wb_selectors) == 24 && offsetof(wb_selectors, cyc1) == 16, "two words and sixteen bytes");
+static_assert(sizeof(wb_color_answer) == 20 && offsetof(wb_color_answer, rgba) == 4, "a flag and a colour");
+static_assert(sizeof(wb_combiner_answer) == 80 && offsetof(wb_combiner_answer, combiner) == 4, "a flag and a combiner");
+static_assert(sizeof(wb_geometry) == 20 && offsetof(wb_geometry, bottom) == 16, "a kind and four sides");
+static_assert(sizeof(wb_fragment) == 24 && offsetof(wb_fragment, shade_alpha) == 20, "a mask, a colour and an alpha");
+static_assert(sizeof(wb_scissor) == 16 && offsetof(wb_scissor, height) == 12, "four words");
+static_assert(sizeof(wb_drawn) == 16 && offsetof(wb_drawn, pixels) == 8, "a number, padding and a count");
+
+/* ---- counting */
+
+unsigned long checks, failures;
+
+void check_at(const char *file, int line, const char *what, uint64_t got, uint64_t expected) {
+    checks++;
+    if (got != expected) {
+        failures++;
+        fprintf(stderr, "c: %s:%d: %s: 0x%llx in place of 0x%llx\n", file, line, what, (unsigned long long)got, (unsigned long long)expected);
+    }
+}
+
+/* ---- values */
+
+static wb_rgba rgba(float r, float g, float b, float a) {
+    wb_rgba c;
+    c.r = r;
+    c.g = g;
+    c.b = b;
+    c.a = a;
+    return c;
+}
+
+static wb_rgba grey(float v) { return rgba(v, v, v, 1.0f); }
+
+/* A mode that blends nothing: every number 0, every flag off. */
+static wb_mode plain_mode(void) {
+    wb_mode m;
+    memset(&m, 0, sizeof m);
+    return m;
+}
+
+/* (0 - 0) * 0 + d for the colour, and the same for alpha. */
+static wb_combiner only(uint8_t color_d, uint8_t alpha_d) {
+    wb_combiner k;
+    memset(&k, 0, sizeof k);
+    memset(k.selectors, WB_COLOR_ZERO, 8); /* WB_ALPHA_ZERO is the same number */
+    k.selectors[3] = color_d;
+    k.selectors[7] = alpha_d;
+    return k;
+}
+
+/* The second cycle's words of the same: document 01's bits, with indices that name Zero in a, b and c. */
+static wb_uniform only_words(uint32_t color_d, uint32_t alpha_d) {
+    wb_uniform u;
+    memset(&u, 0, sizeof u);
+    u.combine_l = 8u << 5 | 16u;
+    u.combine_h = 8u << 24 | color_d << 6 | 7u << 21 | 7u << 3 | 7u << 18 | alpha_d;
+    return u;
+}
+
+/* Indices of the slots d. */
+enum { INDEX_PRIMITIVE = 3, INDEX_SHADE = 4, INDEX_ONE = 6 };
+
+static wb_geometry rectangle(float left, float top, float right, float bottom) {
+    wb_geometry g;
+    g.kind = WB_RECTANGLE;
+    g.left = left;
+    g.top = top;
+    g.right = right;
+    g.bottom = bottom;
+    return g;
+}
+
+static wb_geometry of_kind(uint32_t kind) {
+    wb_geometry g = rectangle(0, 0, 0, 0);
+    g.kind = kind;
+    return g;
+}
+
+/* The blender's inputs, two bits each: P at 14, A at 10, M at 6, B at 2. */
+static uint16_t mux(unsigned p, unsigned a, unsigned m, unsigned b) { return (uint16_t)(p << 14 | a << 10 | m << 6 | b << 2); }
+
+/* ---- selectors */
+
+static void selectors(void) {
+    CHECK(wb_color_a(7), WB_COLOR_NOISE);
+    CHECK(wb_color_a(16 + 6), WB_COLOR_ONE);
+    CHECK(wb_color_b(7), WB_COLOR_K4);
+    CHECK(wb_color_b(15), WB_COLOR_ZERO);
+    CHECK(wb_color_c(15), WB_COLOR_K5);
+    CHECK(wb_color_c(16), WB_COLOR_ZERO);
+    CHECK(wb_color_d(6), WB_COLOR_ONE);
+    CHECK(wb_color_d(8 + 3), WB_COLOR_PRIMITIVE);
+    CHECK(wb_alpha_abd(0), WB_ALPHA_COMBINED);
+    CHECK(wb_alpha_abd(6), WB_ALPHA_ONE);
+    CHECK(wb_alpha_c(0), WB_ALPHA_LOD_FRACTION);
+    CHECK(wb_alpha_c(6), WB_ALPHA_PRIM_LOD_FRAC);
+
+    /* ca l 5/4, cb h 24/4, cc l 0/5, cd h 6/3, aa h 21/3, ab h 3/3, ac h 18/3, ad h 0/3 */
+    uint32_t l = 3u << 5 | 10u;
+    uint32_t h = 5u << 24 | 4u << 6 | 3u << 21 | 5u << 3 | 6u << 18 | 4u;
+    wb_selectors s = wb_decode_combine(l, h);
+    CHECK(s.raw_l, l);
+    CHECK(s.raw_h, h);
+    const uint8_t named[8] = {WB_COLOR_PRIMITIVE, WB_COLOR_ENVIRONMENT, WB_COLOR_PRIMITIVE_ALPHA, WB_COLOR_SHADE,
+                              WB_ALPHA_PRIMITIVE, WB_ALPHA_ENVIRONMENT, WB_ALPHA_PRIM_LOD_FRAC,   WB_ALPHA_SHADE};
+    for (int i = 0; i < 8; i++) {
+        CHECK(s.cyc1[i], named[i]);
+    }
+    /* the bits of the first cycle are 0: Combined, but LodFraction in alpha's c */
+    for (int i = 0; i < 8; i++) {
+        CHECK(s.cyc0[i], i == 6 ? WB_ALPHA_LOD_FRACTION : 0);
+    }
+}
+
+/* ---- floats to whole numbers */
+
+static void numbers(void) {
+    CHECK(wb_clamp(-1.0f) == 0.0f, true);
+    CHECK(wb_clamp(0.25f) == 0.25f, true);
+    CHECK(wb_clamp(2.0f) == 1.0f, true);
+    CHECK(isnan(wb_clamp(NAN)) != 0, true);
+    CHECK(wb_byte_of(0.5f), 128);
+    CHECK(wb_byte_of(1.0f), 255);
+    CHECK(wb_byte_of(NAN), 0);
+    CHECK(wb_quarter(-0.125f) == -1, true);
+    CHECK(wb_quarter(0.125f) == 1, true);
+    CHECK(wb_quarter(-1024.0f) == -4096, true);
+    CHECK(wb_floor_index(1.75f), 1);
+    CHECK(wb_floor_index(-1.0f), 0);
+    CHECK(wb_ceil_index(1.25f), 2);
+    CHECK(wb_ceil_index(INFINITY), 131072);
+    CHECK(wb_is_finite(1.0f), true);
+    CHECK(wb_is_finite(-INFINITY), false);
+    CHECK(wb_is_finite(NAN), false);
+    CHECK(wb_le_total(-0.0f, 0.0f), true);
+    CHECK(wb_le_total(0.0f, -0.0f), false);
+    CHECK(wb_le_total(1.0f, 2.0f), true);
+}
+
+/* ---- the combiner */
+
+static void combiner(void) {
+    /* Primitive by itself, and the uniform's constants */
+    wb_uniform u = only_words(INDEX_PRIMITIVE, INDEX_ONE);
+    u.prim = rgba(0.5f, 1.0f, 0.0f, 0.25f);
+    u.env = grey(0.125f);
+    u.blend_color = grey(0.375f);
+    u.fog_color = grey(0.625f);
+    u.lod_params[2] = 0.75f;
+    wb_combiner_answer made = wb_combiner_new(u, plain_mode());
+    wb_combiner expected = only(WB_COLOR_PRIMITIVE, WB_ALPHA_ONE);
+    expected.prim = u.prim;
+    expected.env = u.env;
+    expected.blend = u.blend_color;
+    expected.fog = u.fog_color;
+    expected.lod = 0.75f;
+    CHECK(made.some, true);
+    CHECK(memcmp(&made.combiner, &expected, sizeof expected), 0);
+
+    wb_color_answer color = wb_combiner_color(expected, grey(1.0f));
+    CHECK(color.some, true);
+    CHECK(color.rgba.r == 0.5f && color.rgba.g == 1.0f && color.rgba.b == 0.0f && color.rgba.a == 1.0f, true);
+
+    /* (Primitive - Environment) * PrimLodFrac + Shade, and alpha from LodFraction, which is 1.0 */
+    wb_combiner k = expected;
+    const uint8_t four[8] = {WB_COLOR_PRIMITIVE, WB_COLOR_ENVIRONMENT, WB_COLOR_PRIM_LOD_FRAC, WB_COLOR_SHADE,
+                             WB_ALPHA_PRIMITIVE, WB_ALPHA_COMBINED,    WB_ALPHA_LOD_FRACTION,  WB_ALPHA_SHADE};
+    memcpy(k.selectors, four, sizeof four);
+    color = wb_combiner_color(k, rgba(0.25f, 0.5f, 0.0f, 0.5f));
+    CHECK(color.rgba.r == 0.375f * 0.75f + 0.25f, true);
+    CHECK(color.rgba.g == 1.0f, true); /* clamped */
+    CHECK(color.rgba.b == 0.0f, true); /* clamped */
+    CHECK(color.rgba.a == 0.75f, true);
+
+    /* a texture, and inputs that need one or are never known */
+    CHECK(wb_combiner_color(only(WB_COLOR_TEXEL0, WB_ALPHA_ONE), grey(1.0f)).some, false);
+    CHECK(wb_combiner_color(only(WB_COLOR_NOISE, WB_ALPHA_ONE), grey(1.0f)).some, false);
+    CHECK(wb_combiner_color(only(WB_COLOR_ONE, WB_ALPHA_TEXEL1), grey(1.0f)).some, false);
+    u.tex_enable = 1;
+    made = wb_combiner_new(u, plain_mode());
+    CHECK(made.some, false);
+    u.tex_enable = 0;
+    wb_mode m = plain_mode();
+    m.z_write = true;
+    CHECK(wb_combiner_new(u, m).some, false);
+    m = plain_mode();
+    m.z_test = true;
+    CHECK(wb_combiner_new(u, m).some, false);
+    m = plain_mode();
+    m.blend_class = WB_BLEND_COLOR;
+    CHECK(wb_combiner_new(u, m).some, false);
+    m.blend_class = WB_ALPHA_OVER;
+    CHECK(wb_combiner_new(u, m).some, true);
+
+    /* white, one channel, and a constant that is neither empty nor full */
+    CHECK_ANSWER(wb_strict_color(only(WB_COLOR_ONE, WB_ALPHA_ONE)), 0, 0xfffe);
+    k = only(WB_COLOR_PRIMITIVE, WB_ALPHA_ONE);
+    k.prim = rgba(0.0f, 1.0f, 0.0f, 1.0f);
+    CHECK_ANSWER(wb_strict_color(k), 0, 0x07c0);
+    k.prim.r = 0.5f;
+    CHECK_ANSWER(wb_strict_color(k), WB_NOTHING, 0);
+}
+
+/* ---- the blender */
+
+static void blender(void) {
+    /* rows 4 and 5 of the table: count 5, memory 4 */
+    wb_mode forced = plain_mode(), smooth = plain_mode();
+    forced.force_blend = true;
+    smooth.antialias = true;
+    CHECK_ANSWER(wb_destination(forced, 5, 4), 0, 7);
+    CHECK_ANSWER(wb_destination(smooth, 5, 4), 0, 4);
+    forced.cvg_dst = smooth.cvg_dst = 1;
+    CHECK_ANSWER(wb_destination(forced, 5, 4), 0, 1);
+    CHECK_ANSWER(wb_destination(smooth, 5, 4), 0, 1);
+    forced.cvg_dst = 2;
+    CHECK_ANSWER(wb_destination(forced, 5, 4), 0, 7);
+    forced.cvg_dst = 3;
+    CHECK_ANSWER(wb_destination(forced, 5, 4), 0, 4);
+
+    /* the pixel by its alpha, over memory by the rest */
+    forced = plain_mode();
+    forced.force_blend = true;
+    forced.blender_mux = mux(0, 0, 1, 0);
+    CHECK_ANSWER(wb_color_known(forced, 0.5f, 8, true, 7, false), 0, 0);
+    CHECK_ANSWER(wb_color_known(forced, 0.5f, 8, true, 7, true), 0, 1);
+    CHECK_ANSWER(wb_color_known(forced, 1.0f, 8, true, 7, false), 0, 1); /* an opaque one hides memory */
+    CHECK_ANSWER(wb_color_known(plain_mode(), 0.5f, 8, false, 0, false), 0, 1);
+
+    /* row 10: unblended 0.5 becomes byte 128 */
+    wb_combiner k = only(WB_COLOR_ONE, WB_ALPHA_ONE);
+    CHECK_ANSWER(wb_blend(plain_mode(), k, grey(0.5f), grey(0.0f), 1.0f, 8, 7), 0, 0xff808080);
+    /* red by a quarter of alpha over green: 0.25 and 0.75 */
+    CHECK_ANSWER(wb_blend(forced, k, rgba(1.0f, 0.0f, 0.0f, 0.25f), rgba(0.0f, 1.0f, 0.0f, 1.0f), 1.0f, 8, 7), 0, 0x4000bf40);
+    /* blend colour by shade alpha, and memory by coverage / 8: 0.5 * 0.5 + 1.0 * 0.5 */
+    forced.blender_mux = mux(2, 2, 1, 1);
+    k.blend = grey(0.5f);
+    CHECK_ANSWER(wb_blend(forced, k, grey(0.0f), grey(1.0f), 0.5f, 8, 4), 0, 0xffbfbfbf);
+    /* fog by fog alpha, and blend colour by 0 */
+    forced.blender_mux = mux(3, 1, 2, 3);
+    k.fog = rgba(1.0f, 0.0f, 1.0f, 0.5f);
+    CHECK_ANSWER(wb_blend(forced, k, grey(0.0f), grey(1.0f), 0.5f, 8, 4), 0, 0xff800080);
+}
+
+/* ---- words */
+
+static void packing(void) {
+    /* row 6: channel 5 packs to 1 at threshold 4 and to 0 at 5; 250 packs to 31 at 0 */
+    CHECK_ANSWER(wb_pack_color(5, 0, 4), 0, 1 << 11);
+    CHECK_ANSWER(wb_pack_color(5, 0, 5), 0, 0);
+    CHECK_ANSWER(wb_pack_color(250, 0, 0), 0, 31 << 11);
+    /* five bits of red, green and blue from the top, then the top bit of the coverage */
+    CHECK_ANSWER(wb_pack_color(0x0000ff00, 0, 7), 0, 0x07c0);
+    CHECK_ANSWER(wb_pack_color(0x00ff0000, 0, 7), 0, 0x003e);
+    CHECK_ANSWER(wb_pack_color(0, 4, 7), 0, 1);
+    CHECK_ANSWER(wb_pack_color(0, 3, 7), 0, 0);
+
+    /* row 7 */
+    CHECK(wb_pack_depth(0.5f), 0x2000);
+    CHECK(wb_pack_depth(1.0f), 0xfffc);
+    CHECK(wb_pack_depth(INFINITY), 0xfffc);
+    CHECK(wb_pack_depth(-1.0f), 0);
+    CHECK(wb_pack_depth(NAN), 0);
+
+    /* supported if depth is set, or fmt 0 with siz 2, or fmt 2 to 4 with siz 1 */
+    for (uint8_t fmt = 0; fmt < 6; fmt++) {
+        for (uint8_t siz = 0; siz < 4; siz++) {
+            bool color = (fmt == 0 && siz == 2) || (fmt >= 2 && fmt <= 4 && siz == 1);
+            CHECK_ANSWER(wb_supported(fmt, siz, 320, false), 0, color);
+            CHECK_ANSWER(wb_supported(fmt, siz, 320, true), 0, 1);
+        }
+    }
+    CHECK_ANSWER(wb_pixel_bytes(0, 0, 320, false), 0, 1);
+    CHECK_ANSWER(wb_pixel_bytes(2, 1, 320, false), 0, 1);
+    CHECK_ANSWER(wb_pixel_bytes(0, 2, 320, false), 0, 2);
+    CHECK_ANSWER(wb_pixel_bytes(0, 3, 320, false), 0, 4);
+
+    /* red 128 and green 255 at threshold 7 with coverage 7: 10000 11111 00000 1 */
+    CHECK_ANSWER(wb_encode(0, 2, 320, false, 0x0000ff80, 7, 0, false, 0, 3, true), 0, 0xc187);
+    CHECK_ANSWER(wb_encode(0, 2, 320, false, 0x0000ff80, 7, 0, false, 0, 3, false), 0, 0x87c1);
+    /* one byte: red at even places of a row, green at odd ones */
+    CHECK_ANSWER(wb_encode(2, 1, 320, false, 0x0000ff80, 7, 320, false, 0, 3, true), 0, 0x80);
+    CHECK_ANSWER(wb_encode(2, 1, 320, false, 0x0000ff80, 7, 321, false, 0, 3, true), 0, 0xff);
+    /* a literal: the half that the pixel names; a depth writer of siz 3 takes a byte of it */
+    CHECK_ANSWER(wb_encode(0, 2, 320, false, 0, 0, 0, true, 0x11223344, 0, true), 0, 0x2211);
+    CHECK_ANSWER(wb_encode(0, 2, 320, false, 0, 0, 1, true, 0x11223344, 0, true), 0, 0x4433);
+    CHECK_ANSWER(wb_encode(0, 3, 320, true, 0, 0, 2, true, 0x11223344, 0, true), 0, 0x33);
+    /* a depth of 0.5, whose bits are 3f000000 */
+    CHECK_ANSWER(wb_encode(0, 2, 320, true, 0x3f000000, 0, 0, false, 0, 0, true), 0, 0x0020);
+    /* an unsupported writer encodes as two zero bytes */
+    CHECK_ANSWER(wb_encode(1, 2, 320, false, 0xffffffff, 7, 0, false, 0, 3, true), 0, 0);
+}
+
+/* ---- number 11: refused with zeros */
+
+static void refused_calls(void) {
+    wb_mode m = plain_mode();
+    wb_combiner k = only(WB_COLOR_ONE, WB_ALPHA_ONE);
+    wb_rgba white = grey(1.0f);
+    CHECK_ANSWER(wb_destination(m, 0, 4), WB_REFUSED, 0);
+    CHECK_ANSWER(wb_destination(m, 9, 4), WB_REFUSED, 0);
+    CHECK_ANSWER(wb_destination(m, 8, 8), WB_REFUSED, 0);
+    CHECK_ANSWER(wb_destination(m, 8, 7), 0, 7);
+    CHECK_ANSWER(wb_color_known(m, 1.0f, 0, true, 0, true), WB_REFUSED, 0);
+    CHECK_ANSWER(wb_color_known(m, 1.0f, 9, true, 0, true), WB_REFUSED, 0);
+    CHECK_ANSWER(wb_color_known(m, 1.0f, 8, true, 8, true), WB_REFUSED, 0);
+    CHECK_ANSWER(wb_color_known(m, 1.0f, 8, false, 8, true), 0, 1); /* an unknown coverage is not looked at */
+    CHECK_ANSWER(wb_blend(m, k, white, white, 1.0f, 0, 0), WB_REFUSED, 0);
+    CHECK_ANSWER(wb_blend(m, k, white, white, 1.0f, 9, 0), WB_REFUSED, 0);
+    CHECK_ANSWER(wb_blend(m, k, white, white, 1.0f, 8, 8), WB_REFUSED, 0);
+    CHECK_ANSWER(wb_pack_color(0xffffffff, 8, 0), WB_REFUSED, 0);
+    CHECK_ANSWER(wb_supported(0, 4, 320, true), WB_REFUSED, 0);
+    CHECK_ANSWER(wb_supported(0, 2, 0, false), 0, 1); /* these two ask about a format, and look at no width (docs/DECISIONS.md) */
+    CHECK_ANSWER(wb_pixel_bytes(0, 4, 320, false), WB_REFUSED, 0);
+    CHECK_ANSWER(wb_pixel_bytes(0, 2, 1025, false), 0, 2);
+    CHECK_ANSWER(wb_encode(0, 2, 0, false, 0, 0, 0, false, 0, 0, true), WB_REFUSED, 0);
+    CHECK_ANSWER(wb_encode(0, 2, 1025, false, 0, 0, 0, false, 0, 0, true), WB_REFUSED, 0);
+    CHECK_ANSWER(wb_encode(0, 4, 320, false, 0, 0, 0, false, 0, 0, true), WB_REFUSED, 0);
+    CHECK_ANSWER(wb_encode(0, 2, 320, false, 0, 8, 0, false, 0, 0, true), WB_REFUSED, 0);
+    CHECK_ANSWER(wb_encode(0, 2, 320, false, 0xffffffff, 0, 1048576, false, 0, 3, true), WB_REFUSED, 0);
+    CHECK_ANSWER(wb_encode(0, 2, 320, false, 0xffffffff, 0, 1048575, false, 0, 3, true), 0, 0xfeff);
+}
+
+/* ---- what a draw covers */
+
+/* A vertex at (x, y). */
+static void set_vertex(float *to, float x, float y, wb_rgba color) {
+    to[0] = x;
+    to[1] = y;
+    to[2] = color.r;
+    to[3] = color.g;
+    to[4] = color.b;
+    to[5] = color.a;
+}
+
+static void raster(void) {
+    const float first = -1024.0f, last = 1023.75f, top = -2048.0f, bottom = 2047.75f;
+    CHECK(wb_in_range(first, top), true);
+    CHECK(wb_in_range(last, bottom), true); /* row 1 */
+    CHECK(wb_in_range(1024.0f, 0.0f), false);
+    CHECK(wb_in_range(nextafterf(first, -INFINITY), 0.0f), false);
+    CHECK(wb_in_range(0.0f, 2048.0f), false);
+    CHECK(wb_in_range(0.0f, nextafterf(top, -INFINITY)), false);
+    CHECK(wb_in_range(NAN, 0.0f), false);
+    CHECK(wb_in_range(0.0f, NAN), false);
+
+    wb_combiner white = only(WB_COLOR_ONE, WB_ALPHA_ONE), shaded = only(WB_COLOR_SHADE, WB_ALPHA_SHADE);
+    wb_geometry triangles = of_kind(WB_TRIANGLES);
+    float v[18];
+    const uint8_t present[3] = {1, 1, 1}, missing[3] = {1, 0, 1};
+    const uint32_t indices[3] = {0, 1, 2};
+    /* the thin triangle of document 01 */
+    set_vertex(v, 0.0f, 0.0f, grey(1.0f));
+    set_vertex(v + 6, 0.125f, 0.25f, rgba(1.0f, 1.0f, 1.0f, 0.5f));
+    set_vertex(v + 12, 1.0f, 2.0f, grey(1.0f));
+    CHECK(wb_admitted(white, triangles, v, 18, present, 3, indices, 3), true);
+    CHECK(wb_admitted(shaded, triangles, v, 18, present, 3, indices, 3), false); /* vertex alphas differ */
+    CHECK(wb_admitted(white, triangles, v, 18, missing, 3, indices, 3), false);
+    CHECK(wb_admitted(white, triangles, v, 18, present, 3, indices, 0), true); /* no triangle */
+    CHECK(wb_admitted(white, rectangle(NAN, NAN, NAN, NAN), v, 0, present, 0, indices, 0), true);
+    CHECK(wb_admitted(white, of_kind(WB_NO_GEOMETRY), v, 18, present, 3, indices, 3), false);
+    CHECK(wb_admitted(white, of_kind(3), v, 18, present, 3, indices, 3), false);
+
+    /* rows 9 and 8, and a NaN side, which covers no sample */
+    wb_mode smooth = plain_mode();
+    smooth.antialias = true;
+    CHECK(wb_pixel(smooth, white, false, triangles, v, 18, present, 3, indices, 3, 0, 1, 0).mask, 0x40);
+    CHECK(wb_pixel(smooth, white, false, triangles, v, 18, present, 3, indices, 3, 1, 1, 0).mask, 0); /* no second triangle */
+    CHECK(wb_pixel(plain_mode(), white, false, triangles, v, 18, present, 3, indices, 3, 0, 1, 0).mask, 0);
+    wb_geometry sides = rectangle(0.25f, 0.0f, 1.0f, 1.0f);
+    wb_fragment got = wb_pixel(smooth, white, false, sides, v, 0, present, 0, indices, 0, 0, 0, 0);
+    CHECK(got.mask, 0x77);
+    CHECK(got.rgba.r == 1.0f && got.rgba.g == 1.0f && got.rgba.b == 1.0f && got.rgba.a == 1.0f && got.shade_alpha == 1.0f, true);
+    got = wb_pixel(plain_mode(), white, false, sides, v, 0, present, 0, indices, 0, 0, 0, 0);
+    CHECK(got.mask, 0);
+    CHECK(got.rgba.r == 0.0f && got.rgba.a == 0.0f && got.shade_alpha == 0.0f, true);
+    sides.left = NAN;
+    CHECK(wb_pixel(smooth, white, false, sides, v, 0, present, 0, indices, 0, 0, 0, 0).mask, 0);
+    /* y comes before x: the second row of the rectangle, not the second column */
+    sides = rectangle(0.0f, 1.0f, 1.0f, 2.0f);
+    CHECK(wb_pixel(smooth, white, false, sides, v, 0, present, 0, indices, 0, 0, 1, 0).mask, 0xff);
+    CHECK(wb_pixel(smooth, white, false, sides, v, 0, present, 0, indices, 0, 0, 0, 1).mask, 0);
+}
+
+/* ---- the frame */
+
+enum { SIDE = 4, PIXELS = SIDE * SIDE };
+
+/* A frame and a draw over it. */
+typedef struct {
+    uint32_t width, height;
+    uint8_t colors[3 * PIXELS], coverages[PIXELS], marks[PIXELS];
+    size_t colors_len, coverages_len, marks_len;
+    wb_mode mode;
+    wb_uniform uniform;
+    bool cull;
+    wb_scissor scissor;
+    wb_geometry geometry;
+    float vertices[18];
+    uint8_t present[3];
+    uint32_t indices[3];
+    size_t vertices_len, present_len, indices_len;
+} scene;
+
+/* Four by four pixels of which nothing is known, with bytes that a known pixel would not have; a white rectangle of the four upper left ones. */
+static scene plain_scene(void) {
+    scene s;
+    memset(&s, 0, sizeof s);
+    s.width = s.height = SIDE;
+    memset(s.colors, 9, sizeof s.colors);
+    memset(s.coverages, 200, sizeof s.coverages);
+    s.colors_len = sizeof s.colors;
+    s.coverages_len = sizeof s.coverages;
+    s.marks_len = sizeof s.marks;
+    s.uniform = only_words(INDEX_PRIMITIVE, INDEX_ONE);
+    s.uniform.prim = grey(1.0f);
+    s.scissor.width = s.scissor.height = SIDE;
+    s.geometry = rectangle(0.0f, 0.0f, 2.0f, 2.0f);
+    /* for draws of triangles: red grows from left to right by a quarter a pixel */
+    set_vertex(s.vertices, 0.0f, 0.0f, rgba(0.0f, 0.0f, 0.0f, 1.0f));
+    set_vertex(s.vertices + 6, 4.0f, 0.0f, rgba(1.0f, 0.0f, 0.0f, 1.0f));
+    set_vertex(s.vertices + 12, 0.0f, 4.0f, rgba(0.0f, 0.0f, 0.0f, 1.0f));
+    s.vertices_len = 18;
+    s.present_len = s.indices_len = 3;
+    for (uint32_t i = 0; i < 3; i++) {
+        s.present[i] = 1;
+        s.indices[i] = i;
+    }
+    return s;
+}
+
+static wb_drawn draw(scene *s) {
+    return wb_draw(s->width, s->height, s->colors, s->colors_len, s->coverages, s->coverages_len, s->marks, s->marks_len, s->mode, s->uniform, s->cull, s->scissor,
+                   s->geometry, s->vertices, s->vertices_len, s->present, s->present_len, s->indices, s->indices_len);
+}
+
+static wb_answer read_word(const scene *s, size_t pixel, uint8_t fmt, uint8_t siz, bool big_endian) {
+    return wb_read_word(s->width, s->height, s->colors, s->colors_len, s->coverages, s->coverages_len, s->marks, s->marks_len, pixel, fmt, siz, 3, big_endian);
+}
+
+/* A draw that is accepted. */
+#define CHECK_DRAWN(s, expected_pixels) \
+    do { \
+        wb_drawn drawn_ = draw(s); \
+        check_at(__FILE__, __LINE__, "number of the draw", drawn_.number, 0); \
+        check_at(__FILE__, __LINE__, "pixels of the draw", drawn_.pixels, expected_pixels); \
+    } while (0)
+
+/* A draw that is turned away: it changes no byte. */
+#define CHECK_REFUSED(s, expected_number) \
+    do { \
+        scene before_ = *(s); \
+        wb_drawn drawn_ = draw(s); \
+        check_at(__FILE__, __LINE__, "number of the draw", drawn_.number, expected_number); \
+        check_at(__FILE__, __LINE__, "pixels of the draw", drawn_.pixels, 0); \
+        check_at(__FILE__, __LINE__, "whether a byte changed", memcmp(&before_, (s), sizeof before_) != 0, false); \
+    } while (0)
+
+/* One pixel's bytes. */
+#define CHECK_PIXEL(s, pixel, red, green, blue, coverage, mark) \
+    do { \
+        CHECK((s).colors[3 * (pixel)], red); \
+        CHECK((s).colors[3 * (pixel) + 1], green); \
+        CHECK((s).colors[3 * (pixel) + 2], blue); \
+        CHECK((s).coverages[pixel], coverage); \
+        CHECK((s).marks[pixel], mark); \
+    } while (0)
+
+/* A rectangle: its four pixels are known with a full coverage, the others are as they were; then their words. */
+static void draw_rectangle(void) {
+    scene s = plain_scene();
+    s.uniform.prim = rgba(0.5f, 1.0f, 0.0f, 1.0f);
+    CHECK_DRAWN(&s, 4);
+    for (int i = 0; i < PIXELS; i++) {
+        if (i % SIDE < 2 && i / SIDE < 2) {
+            CHECK_PIXEL(s, i, 128, 255, 0, 7, 3);
+        } else {
+            CHECK_PIXEL(s, i, 9, 9, 9, 200, 0);
+        }
+    }
+    CHECK_ANSWER(read_word(&s, 5, 0, 2, true), 0, 0xc187);
+    CHECK_ANSWER(read_word(&s, 5, 0, 2, false), 0, 0x87c1);
+    CHECK_ANSWER(read_word(&s, 4, 2, 1, true), 0, 128);
+    CHECK_ANSWER(read_word(&s, 5, 2, 1, true), 0, 255);
+
+    /* the scissor cuts it to its right column, and an empty one to nothing */
+    s = plain_scene();
+    s.scissor.left = 1;
+    CHECK_DRAWN(&s, 2);
+    CHECK_PIXEL(s, 0, 9, 9, 9, 200, 0);
+    CHECK_PIXEL(s, 5, 255, 255, 255, 7, 3);
+    s = plain_scene();
+    s.scissor.height = 0;
+    CHECK_DRAWN(&s, 0);
+}
+
+/* A shaded triangle of ten pixels, with red by the pixel's upper left corner: 0, 63.75, 127.5 and 191.25, rounded. The long side cuts four pixels from corner to
+ * corner: of their eight samples those at eighths 0 and 4, 2, and 0 of the first three rows lie before it, which is a coverage of 3. */
+static void draw_triangle(void) {
+    static const uint8_t red[SIDE] = {0, 64, 128, 191};
+    scene s = plain_scene();
+    s.uniform = only_words(INDEX_SHADE, INDEX_ONE);
+    s.geometry = of_kind(WB_TRIANGLES);
+    CHECK_DRAWN(&s, 10);
+    for (int i = 0; i < PIXELS; i++) {
+        int x = i % SIDE, y = i / SIDE;
+        if (x + y < SIDE) {
+            CHECK_PIXEL(s, i, red[x], 0, 0, x + y == SIDE - 1 ? 3 : 7, 3);
+        } else {
+            CHECK_PIXEL(s, i, 9, 9, 9, 200, 0);
+        }
+    }
+    /* cull skips a triangle of this turn, and draws one of the other */
+    s.cull = true;
+    CHECK_DRAWN(&s, 0);
+    s.indices[1] = 2;
+    s.indices[2] = 1;
+    CHECK_DRAWN(&s, 10);
+    /* no triangle, and the lists empty */
+    s.vertices_len = s.present_len = s.indices_len = 0;
+    CHECK_DRAWN(&s, 0);
+}
+
+/* Black by half over white, in columns 1 and 2: known ground becomes grey, unknown ground stays unknown. */
+static void draw_blended(void) {
+    scene s = plain_scene();
+    s.geometry = rectangle(0.0f, 0.0f, 2.0f, 4.0f);
+    CHECK_DRAWN(&s, 8);
+    s.uniform = only_words(INDEX_PRIMITIVE, INDEX_PRIMITIVE);
+    s.uniform.prim = rgba(0.0f, 0.0f, 0.0f, 0.5f);
+    s.mode.force_blend = true;
+    s.mode.blender_mux = mux(0, 0, 1, 0);
+    s.geometry = rectangle(1.0f, 0.0f, 3.0f, 4.0f);
+    CHECK_DRAWN(&s, 8);
+    /* with cvg_dst 2 the coverage is known, the colour is not */
+    s.mode.cvg_dst = 2;
+    s.geometry = rectangle(3.0f, 0.0f, 4.0f, 4.0f);
+    CHECK_DRAWN(&s, 4);
+    for (int y = 0; y < SIDE; y++) {
+        CHECK_PIXEL(s, y * SIDE, 255, 255, 255, 7, 3);
+        CHECK_PIXEL(s, y * SIDE + 1, 128, 128, 128, 7, 3);
+        CHECK_PIXEL(s, y * SIDE + 2, 9, 9, 9, 200, 0);
+        CHECK_PIXEL(s, y * SIDE + 3, 9, 9, 9, 7, 2);
+    }
+    /* over known ground by an unknown colour: the mark goes, the bytes stay */
+    s.marks[2] = 1;
+    s.mode.blender_mux = mux(1, 0, 1, 0);
+    s.geometry = rectangle(2.0f, 0.0f, 3.0f, 1.0f);
+    CHECK_DRAWN(&s, 1);
+    CHECK_PIXEL(s, 2, 9, 9, 9, 7, 3);
+    s.marks[2] = 0;
+    CHECK_DRAWN(&s, 1);
+    CHECK_PIXEL(s, 2, 9, 9, 9, 7, 2);
+}
+
+/* Numbers 1 to 7, each from a scene that is accepted otherwise. */
+static void refused_draws(void) {
+    static float many[6 * 4097];
+    static uint8_t flags[4097];
+    static uint32_t list[12291];
+    static const uint32_t sizes[3] = {0, 1025, UINT32_MAX};
+    scene s;
+
+    for (int i = 0; i < 3; i++) {
+        s = plain_scene();
+        s.width = sizes[i];
+        CHECK_REFUSED(&s, 1);
+        s = plain_scene();
+        s.height = sizes[i];
+        CHECK_REFUSED(&s, 1);
+    }
+
+    s = plain_scene();
+    s.colors_len--;
+    CHECK_REFUSED(&s, 2);
+    s = plain_scene();
+    s.coverages_len--;
+    CHECK_REFUSED(&s, 2);
+    s = plain_scene();
+    s.marks_len--;
+    CHECK_REFUSED(&s, 2);
+    s = plain_scene();
+    s.height = 3;
+    CHECK_REFUSED(&s, 2);
+
+    s = plain_scene();
+    s.marks[15] = 4;
+    CHECK_REFUSED(&s, 3);
+    s = plain_scene();
+    s.marks[15] = 2;
+    CHECK_REFUSED(&s, 3);
+    s.marks[15] = 1;
+    CHECK_DRAWN(&s, 4); /* an unmarked coverage may be any byte */
+
+    s = plain_scene();
+    s.scissor.left = 65536;
+    CHECK_REFUSED(&s, 4);
+    s = plain_scene();
+    s.scissor.top = 65536;
+    CHECK_REFUSED(&s, 4);
+    s = plain_scene();
+    s.scissor.width = 65536;
+    CHECK_REFUSED(&s, 4);
+    s = plain_scene();
+    s.scissor.height = 65536;
+    CHECK_REFUSED(&s, 4);
+    s.scissor.height = 65535;
+    CHECK_DRAWN(&s, 4);
+
+    s = plain_scene();
+    s.vertices_len--;
+    CHECK_REFUSED(&s, 5);
+    s = plain_scene();
+    s.present_len--;
+    CHECK_REFUSED(&s, 5);
+    s = plain_scene();
+    s.present[2] = 2;
+    CHECK_REFUSED(&s, 5);
+    s = plain_scene();
+    s.indices_len--;
+    CHECK_REFUSED(&s, 5);
+    s = plain_scene();
+    wb_drawn got = wb_draw(s.width, s.height, s.colors, s.colors_len, s.coverages, s.coverages_len, s.marks, s.marks_len, s.mode, s.uniform, s.cull, s.scissor,
+                           s.geometry, many, 6 * 4097, flags, 4097, list, 0);
+    CHECK(got.number, 5);
+    got = wb_draw(s.width, s.height, s.colors, s.colors_len, s.coverages, s.coverages_len, s.marks, s.marks_len, s.mode, s.uniform, s.cull, s.scissor,
+                  s.geometry, many, 6 * 4096, flags, 4096, list, 12291);
+    CHECK(got.number, 5);
+    got = wb_draw(s.width, s.height, s.colors, s.colors_len, s.coverages, s.coverages_len, s.marks, s.marks_len, s.mode, s.uniform, s.cull, s.scissor,
+                  s.geometry, many, 6 * 4096, flags, 4096, list, 12288);
+    CHECK(got.number, 0);
+
+    s = plain_scene();
+    s.uniform.tex_enable = 1;
+    CHECK_REFUSED(&s, 6);
+    s = plain_scene();
+    s.mode.alpha_compare = WB_COMPARE_THRESHOLD;
+    CHECK_REFUSED(&s, 6);
+
+    s = plain_scene();
+    s.geometry = of_kind(WB_NO_GEOMETRY);
+    CHECK_REFUSED(&s, 7);
+    s = plain_scene();
+    s.geometry = of_kind(WB_TRIANGLES);
+    s.present[1] = 0;
+    CHECK_REFUSED(&s, 7);
+    s = plain_scene();
+    s.geometry = of_kind(WB_TRIANGLES);
+    s.vertices[6] = 1024.0f;
+    CHECK_REFUSED(&s, 7);
+    s = plain_scene();
+    s.geometry = of_kind(WB_TRIANGLES);
+    s.indices[2] = 3;
+    CHECK_REFUSED(&s, 7);
+
+    /* several at once: the first in the order of document 01 is answered */
+    s = plain_scene();
+    s.geometry = of_kind(WB_NO_GEOMETRY);
+    s.uniform.tex_enable = 1;
+    CHECK_REFUSED(&s, 6);
+    s.scissor.left = 65536;
+    s.indices_len = 1;
+    CHECK_REFUSED(&s, 4);
+    s.marks[0] = 255;
+    CHECK_REFUSED(&s, 3);
+    s.width = 0;
+    CHECK_REFUSED(&s, 1);
+}
+
+/* Numbers 1 to 3 and 8 to 10. */
+static void refused_reads(void) {
+    scene s = plain_scene();
+    CHECK_DRAWN(&s, 4);
+    CHECK_ANSWER(read_word(&s, 0, 0, 2, true), 0, 0xffff);
+    CHECK_ANSWER(read_word(&s, PIXELS, 0, 2, true), 8, 0);
+    CHECK_ANSWER(read_word(&s, SIZE_MAX, 0, 2, true), 8, 0);
+    CHECK_ANSWER(read_word(&s, 0, 1, 2, true), 9, 0);
+    CHECK_ANSWER(read_word(&s, 0, 0, 1, true), 9, 0);
+    CHECK_ANSWER(read_word(&s, 0, 2, 2, true), 9, 0);
+    CHECK_ANSWER(read_word(&s, 2, 0, 2, true), 10, 0); /* nothing is known */
+    s.marks[0] = 1;
+    CHECK_ANSWER(read_word(&s, 0, 0, 2, true), 10, 0); /* two bytes carry the coverage */
+    CHECK_ANSWER(read_word(&s, 0, 2, 1, true), 0, 255); /* one byte does not */
+    s.marks[0] = 2;
+    CHECK_ANSWER(read_word(&s, 0, 2, 1, true), 10, 0);
+    s.marks[0] = 4;
+    CHECK_ANSWER(read_word(&s, 0, 0, 2, true), 3, 0);
+    s.marks[0] = 3;
+    s.marks_len--;
+    CHECK_ANSWER(read_word(&s, 0, 0, 2, true), 2, 0);
+    s.height = 1025;
+    CHECK_ANSWER(read_word(&s, PIXELS, 1, 2, true), 1, 0);
+}
+
+int main(int count, char **words) {
+    if (count != 3) {
+        fprintf(stderr, "usage: %s CALLS LISTS, the recorded answers\n", words[0]);
+        return 2;
+    }
+    selectors();
+    numbers();
+    combiner();
+    blender();
+    packing();
+    refused_calls();
+    raster();
+    draw_rectangle();
+    draw_triangle();
+    draw_blended();
+    refused_draws();
+    refused_reads();
+    check_recorded_calls(words[1]);
+    check_recorded_lists(words[2]);
+    if (failures > 0) {
+        fprintf(stderr, "c: %lu of %lu checks failed\n", failures, checks);
+        return 1;
+    }
+    printf("c: %lu checks passed\n", checks);
+    return 0;
+}

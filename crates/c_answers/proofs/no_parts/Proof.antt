@@ -1,0 +1,18 @@
+-- `c_answers::no_parts` meets its contract: zeros in every field. Assumes nothing.
+use lib.Ieee.{ofBits}
+use Rattle.c_answers.specs.Answers.{noParts}
+use borrow.Author.Needs.{needs}
+use Rattle.c_answers.proofs.no_parts.Statement.{statement}
+use Rattle.c_answers.proofs.no_parts.Tie as tie
+
+no-color-requires : tie.Need-no-color-requires
+no-color-requires c κs = search needs
+
+returns : tie.Need-returns
+unfolding ofBits
+returns c =
+    λ i.
+    let z = c .no-color .ensures i in record { selectors = noParts .selectors; prim = z; env = z; blend = z; fog = z; lod = noParts .lod }
+
+pub no-parts-spec : {M : Type 1} → statement M
+no-parts-spec = tie.close (tie.spec no-color-requires returns)

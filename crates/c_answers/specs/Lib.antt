@@ -1,0 +1,2 @@
+-- The definitions that the contracts of `c_answers` cite.
+pub mod Answers

@@ -1,0 +1,23 @@
+-- A draw in the C interface: its geometry from plain values, and what a pixel of it emits as a struct. Definitions only.
+use mathlib.Core.List.{List, [], _∷_}
+use Rattle.num.specs.Color.{f0}
+use Rattle.raster.specs.declared.Fragment.{Fragment}
+use Rattle.raster.specs.declared.Fragment.the-variants.{Empty, Covered}
+use Rattle.raster.specs.declared.Geometry.{Geometry}
+use Rattle.raster.specs.declared.Geometry.the-variants.{Nothing, Triangles, Rectangle}
+use Rattle.c_draw.specs.declared.GeometryParts.{GeometryParts}
+use Rattle.c_draw.specs.declared.FragmentAnswer.{FragmentAnswer}
+use Rattle.c_types.specs.Convert.{numbered}
+use Rattle.c_answers.specs.Answers.{noColor}
+
+abbrev pub geometries : GeometryParts → List Geometry
+geometries p = Nothing ∷ Triangles ∷ Rectangle (p .left) (p .top) (p .right) (p .bottom) ∷ []
+
+-- from 3 up Nothing
+unfoldable pub geometryFrom : GeometryParts → Geometry
+geometryFrom p = numbered (geometries p) Nothing (p .kind)
+
+-- where nothing is emitted all is 0; a mask that is emitted never is
+abbrev pub fragmentAnswer : Fragment → FragmentAnswer
+fragmentAnswer Empty = record { mask = 0; rgba = noColor; «shade_alpha» = f0 }
+fragmentAnswer (Covered mask r g b a shade) = record { mask = mask; rgba = record { r = r; g = g; b = b; a = a }; «shade_alpha» = shade }

@@ -1,0 +1,13 @@
+-- A draw's and a word read's answer as C has it. Definitions only.
+use Rattle.draw.specs.Draw.{DrawAnswer}
+use Rattle.words.specs.Read.{WordAnswer}
+use Rattle.c_answers.specs.declared.Answer.{Answer}
+use Rattle.c_frame.specs.declared.DrawnAnswer.{DrawnAnswer}
+use Rattle.c_answers.specs.Answers.{twoBytes}
+
+abbrev pub drawnAnswer : DrawAnswer → DrawnAnswer
+drawnAnswer a = record { number = a .number; pixels = a .pixels }
+
+-- the two bytes, the first lowest
+abbrev pub wordAnswer : WordAnswer → Answer
+wordAnswer a = record { number = a .number; value = twoBytes (a .word) }

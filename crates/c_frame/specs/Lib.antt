@@ -1,0 +1,2 @@
+-- The definitions that the contracts of `c_frame` cite.
+pub mod Frames

@@ -1,0 +1,119 @@
+// The C interface of the frame, over plain values: a draw and a word read over three lent slices of colour bytes, coverages and marks. Crate exports gives the calls
+// their C names.
+ghost use mathlib.Core.Path.{_≡_};
+ghost use Rattle.frame.specs.Frame.{frameOf};
+ghost use Rattle.draw.specs.Draw.{drawArgs, drawnMeans, drawAnswer, drawFrame};
+ghost use Rattle.words.specs.Read.{readArgs, wordMeans, readAnswer};
+ghost use Rattle.c_types.specs.Convert.{modeOf, encodingOf};
+ghost use Rattle.c_draw.specs.Draws.{geometryFrom};
+ghost use Rattle.c_frame.specs.Frames.{drawnAnswer, wordAnswer};
+use c_answers::Answer;
+use c_draw::GeometryParts;
+use c_draw::geometry_of;
+use c_types::Mode;
+use c_types::byte_order;
+use c_types::render_mode;
+use draw::Drawn;
+use mode::CombinerUniform;
+use raster::Scissor;
+use words::Word;
+
+// Document 01's number and the count of pixels emitted, with repeats.
+#[repr(C)]
+pub struct DrawnAnswer {
+    pub number: u32,
+    pub pixels: u64,
+}
+
+fn drawn(answer: Drawn) -> DrawnAnswer
+    ensures { λ r. ⌜ r ≡ drawnAnswer (drawnMeans answer) ⌝ }
+{
+    match answer {
+        Drawn::Emitted(pixels) => DrawnAnswer { number: 0, pixels },
+        Drawn::Refused(number) => DrawnAnswer {
+            number: number as u32,
+            pixels: 0,
+        },
+    }
+}
+
+fn word(answer: Word) -> Answer
+    ensures { λ r. ⌜ r ≡ wordAnswer (wordMeans answer) ⌝ }
+{
+    match answer {
+        Word::Bytes(first, second) => Answer {
+            number: 0,
+            value: (first as u32) + (second as u32) * 256,
+        },
+        Word::Refused(number) => Answer {
+            number: number as u32,
+            value: 0,
+        },
+    }
+}
+
+pub fn draw(
+    width: u32,
+    height: u32,
+    colors: &mut [u8],
+    coverages: &mut [u8],
+    marks: &mut [u8],
+    mode: Mode,
+    uniform: CombinerUniform,
+    cull: bool,
+    scissor: Scissor,
+    geometry: GeometryParts,
+    vertices: &[f32],
+    present: &[u8],
+    indices: &[u32],
+) -> DrawnAnswer
+    ensures { λ r. ⌜ r ≡ drawnAnswer (drawAnswer (drawArgs (modeOf mode) uniform cull scissor (geometryFrom geometry) (now (vertices .entry)) (now (present .entry)) (now (indices .entry))) width height (frameOf (now (colors .entry)) (now (coverages .entry)) (now (marks .entry)))) ⌝ ∗ ⌜ frameOf (now (colors .exit)) (now (coverages .exit)) (now (marks .exit)) ≡ drawFrame (drawArgs (modeOf mode) uniform cull scissor (geometryFrom geometry) (now (vertices .entry)) (now (present .entry)) (now (indices .entry))) width height (frameOf (now (colors .entry)) (now (coverages .entry)) (now (marks .entry))) ⌝ }
+{
+    let m = render_mode(mode);
+    let g = geometry_of(geometry);
+    let answer = draw::draw(
+        width,
+        height,
+        colors,
+        coverages,
+        marks,
+        m,
+        uniform,
+        cull,
+        scissor,
+        g,
+        vertices,
+        present,
+        indices,
+    );
+    drawn(answer)
+}
+
+pub fn read_word(
+    width: u32,
+    height: u32,
+    colors: &[u8],
+    coverages: &[u8],
+    marks: &[u8],
+    pixel: usize,
+    fmt: u8,
+    siz: u8,
+    rgb_dither: u8,
+    big_endian: bool,
+) -> Answer
+    ensures { λ r. ⌜ r ≡ wordAnswer (readAnswer (readArgs pixel fmt siz «rgb_dither» (encodingOf «big_endian»)) width height (frameOf (now (colors .entry)) (now (coverages .entry)) (now (marks .entry)))) ⌝ }
+{
+    let order = byte_order(big_endian);
+    word(words::read_word(
+        width,
+        height,
+        colors,
+        coverages,
+        marks,
+        pixel,
+        fmt,
+        siz,
+        rgb_dither,
+        order,
+    ))
+}
