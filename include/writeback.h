@@ -276,6 +276,18 @@ wb_drawn wb_draw(uint32_t width, uint32_t height, uint8_t *colors, size_t colors
 wb_answer wb_read_word(uint32_t width, uint32_t height, const uint8_t *colors, size_t colors_len, const uint8_t *coverages, size_t coverages_len,
                        const uint8_t *marks, size_t marks_len, size_t pixel, uint8_t fmt, uint8_t siz, uint8_t rgb_dither, bool big_endian);
 
+typedef struct {
+    uint32_t number; /* 0, or why the run was turned away as a whole: 19 */
+    uint64_t words; /* how many words were read */
+} wb_run;
+
+/* The words of the pixels from first on, as many as numbers has bytes. numbers[i] is the number of the read of pixel first + i: 0, 1 to 3 or 8 to 10.
+   words[2 * i] and words[2 * i + 1] are its two bytes, the first lowest, or zeros where it was turned away. Number 19: words has not exactly two bytes for
+   each byte of numbers; nothing is then written. The frame is not changed. */
+wb_run wb_read_words(uint32_t width, uint32_t height, const uint8_t *colors, size_t colors_len, const uint8_t *coverages, size_t coverages_len,
+                     const uint8_t *marks, size_t marks_len, size_t first, uint8_t fmt, uint8_t siz, uint8_t rgb_dither, bool big_endian, uint8_t *words,
+                     size_t words_len, uint8_t *numbers, size_t numbers_len);
+
 #ifdef __cplusplus
 }
 #endif

@@ -3,3 +3,4 @@ pub mod Cases
 pub mod Answered
 pub mod Sizes
 pub mod Back
+pub mod Ran

@@ -39,7 +39,7 @@ use selectors::CombinerSelectors;
 use selectors::CycleSel;
 
 mod draws; // a draw's pixels
-mod frames; // a draw and a word read
+mod frames; // a draw, a word read and a run of words
 
 // RenderMode, its enums by their numbers in the order of their declarations. A number that an enum lacks stands for its last case: a class above 3 is
 // DualSrc, a z mode above 3 Decal, an alpha_compare above 2 Dither.
