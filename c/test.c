@@ -48,6 +48,8 @@ static_assert(sizeof(wb_fragment) == 24 && offsetof(wb_fragment, shade_alpha) ==
 static_assert(sizeof(wb_scissor) == 16 && offsetof(wb_scissor, height) == 12, "four words");
 static_assert(sizeof(wb_drawn) == 16 && offsetof(wb_drawn, pixels) == 8, "a number, padding and a count");
 
+static_assert(sizeof(wb_run) == 16 && offsetof(wb_run, words) == 8, "a number, padding and a count");
+
 /* ---- counting */
 
 unsigned long checks, failures;
@@ -734,6 +736,47 @@ static void refused_reads(void) {
     CHECK_ANSWER(read_word(&s, PIXELS, 1, 2, true), 1, 0);
 }
 
+/* A run: each entry is what the single read of its pixel answers, the pixels past the end with number 8; and number 19, which writes nothing. */
+static void read_run(void) {
+    enum { ENTRIES = 10, FIRST = 10 };
+    scene s = plain_scene();
+    uint8_t words[2 * ENTRIES], numbers[ENTRIES], before[2 * ENTRIES];
+    s.uniform.prim = rgba(0.5f, 1.0f, 0.0f, 1.0f);
+    s.geometry = rectangle(0.0f, 2.0f, 4.0f, 3.0f); /* pixels 8 to 11 */
+    CHECK_DRAWN(&s, 4);
+    memset(words, 77, sizeof words);
+    memset(numbers, 77, sizeof numbers);
+    wb_run got = wb_read_words(s.width, s.height, s.colors, s.colors_len, s.coverages, s.coverages_len, s.marks, s.marks_len, FIRST, 0, 2, 3, true, words,
+                               sizeof words, numbers, sizeof numbers);
+    CHECK(got.number, 0);
+    CHECK(got.words, 2); /* pixels 10 and 11 */
+    for (int i = 0; i < ENTRIES; i++) {
+        bool known = FIRST + i < 12;
+        CHECK(numbers[i], known ? 0 : FIRST + i < PIXELS ? 10 : 8);
+        CHECK(words[2 * i], known ? 0x87 : 0);
+        CHECK(words[2 * i + 1], known ? 0xc1 : 0);
+    }
+    /* a frame that is refused: its number in every entry */
+    s.marks[0] = 4;
+    got = wb_read_words(s.width, s.height, s.colors, s.colors_len, s.coverages, s.coverages_len, s.marks, s.marks_len, 0, 0, 2, 3, true, words, sizeof words,
+                        numbers, sizeof numbers);
+    CHECK(got.number, 0);
+    CHECK(got.words, 0);
+    for (int i = 0; i < ENTRIES; i++) {
+        CHECK(numbers[i], 3);
+        CHECK(words[2 * i] + words[2 * i + 1], 0);
+    }
+    /* not two bytes for each entry */
+    memset(words, 77, sizeof words);
+    memcpy(before, words, sizeof words);
+    got = wb_read_words(s.width, s.height, s.colors, s.colors_len, s.coverages, s.coverages_len, s.marks, s.marks_len, 0, 0, 2, 3, true, words,
+                        sizeof words - 1, numbers, sizeof numbers);
+    CHECK(got.number, 19);
+    CHECK(got.words, 0);
+    CHECK(memcmp(words, before, sizeof words), 0);
+    CHECK(numbers[0], 3);
+}
+
 int main(int count, char **words) {
     if (count != 3) {
         fprintf(stderr, "usage: %s CALLS LISTS, the recorded answers\n", words[0]);
@@ -751,6 +794,7 @@ int main(int count, char **words) {
     draw_blended();
     refused_draws();
     refused_reads();
+    read_run();
     check_recorded_calls(words[1]);
     check_recorded_lists(words[2]);
     if (failures > 0) {

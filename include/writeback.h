@@ -2,7 +2,8 @@
  * The pixel write-back port for C: draws and word reads over a lent frame, the single-pixel calls, and a test entry for what one pixel of a draw emits.
  *
  * Every function is total and keeps no state. It takes and gives plain values, but for lists, which are lent for the call: a list is given by where it starts, which is not
- * NULL even of an empty one, and how many elements it has. Only wb_draw writes, and only the frame's three lists, which overlap no other list of the call. What each function
+ * NULL even of an empty one, and how many elements it has. Only wb_draw writes the frame's three
+ * lists, and only wb_read_words the two for its answers; what is written overlaps no other list of the call. What each function
  * answers is proved: the contracts stand in crates/exports/src, the definitions that they cite in the specs/ of the crates below it. c/run.sh holds this file to those crates
  * and calls every function from C.
  *
@@ -277,6 +278,17 @@ wb_drawn wb_draw(uint32_t width, uint32_t height, uint8_t *colors, size_t colors
 /* The two bytes of a pixel's word, the first lowest, or why the read was turned away: 1 to 3 and 8 to 10. */
 wb_answer wb_read_word(uint32_t width, uint32_t height, const uint8_t *colors, size_t colors_len, const uint8_t *coverages, size_t coverages_len,
                        const uint8_t *marks, size_t marks_len, size_t pixel, uint8_t fmt, uint8_t siz, uint8_t rgb_dither, bool big_endian);
+
+typedef struct {
+    uint32_t number; /* 0, or why the run was turned away as a whole: 19 */
+    uint64_t words;  /* how many words were read */
+} wb_run;
+
+/* The words of the pixels from first on, as many as numbers has bytes. numbers[i] is the number of the read of pixel first + i: 0, 1 to 3 or 8 to 10. words[2 * i] and
+ * words[2 * i + 1] are its two bytes, or zeros where it was turned away. Number 19: words has not exactly two bytes for each byte of numbers; nothing is written then. */
+wb_run wb_read_words(uint32_t width, uint32_t height, const uint8_t *colors, size_t colors_len, const uint8_t *coverages, size_t coverages_len,
+                     const uint8_t *marks, size_t marks_len, size_t first, uint8_t fmt, uint8_t siz, uint8_t rgb_dither, bool big_endian, uint8_t *words,
+                     size_t words_len, uint8_t *numbers, size_t numbers_len);
 
 #ifdef __cplusplus
 }

@@ -36,7 +36,7 @@ fn known_coverage(mark: u8) -> bool {
 }
 
 /// Numbers 1 to 3, or 0.
-fn frame_number(frame: &Frame) -> u32 {
+pub fn frame_number(frame: &Frame) -> u32 {
     let Frame { width, height, colors, coverages, marks } = frame;
     if ![width, height].into_iter().all(|side| (1..=1024).contains(side)) {
         return 1;
@@ -199,11 +199,15 @@ pub fn draw(frame: &mut Frame, draw: &Draw, branches: &mut Branches) -> DrawAnsw
 }
 
 pub fn read_word(frame: &Frame, read: &Read) -> Answer {
-    let refused = |number| Answer { number, value: 0 };
-    let number = frame_number(frame);
-    if number != 0 {
-        return refused(number);
+    match frame_number(frame) {
+        0 => read_pixel(frame, read),
+        number => Answer { number, value: 0 },
     }
+}
+
+/// A word read on a frame that numbers 1 to 3 let through.
+pub fn read_pixel(frame: &Frame, read: &Read) -> Answer {
+    let refused = |number| Answer { number, value: 0 };
     let Read { pixel, fmt, siz, rgb_dither, big_endian } = *read;
     if pixel >= frame.marks.len() {
         return refused(8);

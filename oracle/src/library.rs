@@ -119,6 +119,11 @@ c_struct! {
 }
 
 c_struct! {
+    /// A run's own number, and how many words were read.
+    RunAnswer { number: u32, words: u64, }
+}
+
+c_struct! {
     /// What a pixel emits. Where the mask is 0 it emits nothing, and the rest is no part of the answer.
     FragmentAnswer { mask: u32, rgba: Rgba, shade_alpha: f32, }
 }
@@ -293,6 +298,26 @@ extern "C" {
         rgb_dither: u8,
         big_endian: bool,
     ) -> Answer;
+
+    fn wb_read_words(
+        width: u32,
+        height: u32,
+        colors: Bytes,
+        colors_len: usize,
+        coverages: Bytes,
+        coverages_len: usize,
+        marks: Bytes,
+        marks_len: usize,
+        first: usize,
+        fmt: u8,
+        siz: u8,
+        rgb_dither: u8,
+        big_endian: bool,
+        words: BytesMut,
+        words_len: usize,
+        numbers: BytesMut,
+        numbers_len: usize,
+    ) -> RunAnswer;
 }
 
 /// A call: the arguments before the shape's lists, the shape, and the arguments behind them.
@@ -354,6 +379,33 @@ pub fn read_word(frame: &Frame, read: &Read) -> Answer {
             read.siz,
             read.rgb_dither,
             read.big_endian,
+        )
+    }
+}
+
+/// The run of words from the read's pixel on.
+pub fn read_words(frame: &Frame, read: &Read, words: &mut [u8], numbers: &mut [u8]) -> RunAnswer {
+    let Frame { width, height, colors, coverages, marks } = frame;
+    // SAFETY: as above.
+    unsafe {
+        wb_read_words(
+            *width,
+            *height,
+            colors.as_ptr(),
+            colors.len(),
+            coverages.as_ptr(),
+            coverages.len(),
+            marks.as_ptr(),
+            marks.len(),
+            read.pixel,
+            read.fmt,
+            read.siz,
+            read.rgb_dither,
+            read.big_endian,
+            words.as_mut_ptr(),
+            words.len(),
+            numbers.as_mut_ptr(),
+            numbers.len(),
         )
     }
 }

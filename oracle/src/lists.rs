@@ -236,6 +236,17 @@ fn read(inputs: &mut Inputs, (width, height): (u32, u32)) -> Read {
     Read { pixel: if inputs.below(16) == 0 { past } else { inside }, fmt, siz, rgb_dither, big_endian: inputs.flag() }
 }
 
+/// A frame, in one of ten cases one that numbers 1 to 3 may refuse, and a word read on it.
+pub fn frame_and_read(inputs: &mut Inputs, class: Class) -> (Frame, Read) {
+    let size = size(inputs, class);
+    let mut frame = frame(inputs, size);
+    let read = read(inputs, size);
+    if inputs.below(10) == 0 {
+        break_frame(inputs, &mut frame);
+    }
+    (frame, read)
+}
+
 impl List {
     pub fn at_random(inputs: &mut Inputs, class: Class) -> List {
         let size = size(inputs, class);

@@ -13,6 +13,7 @@ mod compare_numbers;
 mod compare_pack;
 mod compare_pixel;
 mod compare_raster;
+mod compare_runs;
 mod compare_selectors;
 mod draws;
 mod frame;
@@ -78,9 +79,10 @@ const COMPARISONS: [(&str, Comparison); 26] = [
 /// What is compared in draws and lists of them, with lines of its own.
 type Counted = fn(u64, f64) -> Result<Vec<Line>, String>;
 
-const COUNTED: [(&str, Counted); 2] = [
+const COUNTED: [(&str, Counted); 3] = [
     ("rasterize", |seed, scale| Ok(run(seed, scale, compare_raster::rasterize)?.lines())),
     ("draw", |seed, scale| Ok(run(seed, scale, compare_frame::lists)?.lines())),
+    ("read_words", |seed, scale| Ok(run(seed, scale, compare_runs::runs)?.lines())),
 ];
 
 /// With a comma before every three digits.

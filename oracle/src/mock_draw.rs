@@ -412,7 +412,22 @@ pub extern "C" fn wb_read_word(
     big_endian: bool,
 ) -> Answer {
     lent! { colors colors_len, coverages coverages_len, marks marks_len }
-    let number = match frame_number(width, height, colors, coverages, marks) {
+    let number = frame_number(width, height, colors, coverages, marks);
+    read(number, width, [colors, coverages, marks], pixel, fmt, siz, rgb_dither, big_endian)
+}
+
+/// A word read, with the frame's number found before.
+fn read(
+    frame_number: u32,
+    width: u32,
+    [colors, coverages, marks]: [&[u8]; 3],
+    pixel: usize,
+    fmt: u8,
+    siz: u8,
+    rgb_dither: u8,
+    big_endian: bool,
+) -> Answer {
+    let number = match frame_number {
         0 if pixel >= marks.len() => 8,
         0 if !is_supported(fmt, siz, false) => 9,
         0 if marks[pixel] != 3 && (siz == 2 || marks[pixel] != 1) => 10,
@@ -424,4 +439,39 @@ pub extern "C" fn wb_read_word(
     let rgba = u32::from_le_bytes([colors[3 * pixel], colors[3 * pixel + 1], colors[3 * pixel + 2], 255]);
     let coverage = if siz == 2 { coverages[pixel] } else { 0 };
     wb_encode(fmt, siz, width, false, rgba, coverage, pixel as u32, false, 0, rgb_dither, big_endian)
+}
+
+#[no_mangle]
+pub extern "C" fn wb_read_words(
+    width: u32,
+    height: u32,
+    colors: *const u8,
+    colors_len: usize,
+    coverages: *const u8,
+    coverages_len: usize,
+    marks: *const u8,
+    marks_len: usize,
+    first: usize,
+    fmt: u8,
+    siz: u8,
+    rgb_dither: u8,
+    big_endian: bool,
+    words: *mut u8,
+    words_len: usize,
+    numbers: *mut u8,
+    numbers_len: usize,
+) -> RunAnswer {
+    lent! { colors colors_len, coverages coverages_len, marks marks_len }
+    lent_to_write! { words words_len, numbers numbers_len }
+    if words.len() != 2 * numbers.len() {
+        return RunAnswer { number: 19, words: 0 };
+    }
+    let refusal = frame_number(width, height, colors, coverages, marks);
+    for (i, (number, word)) in numbers.iter_mut().zip(words.chunks_exact_mut(2)).enumerate() {
+        let pixel = first.saturating_add(i);
+        let answer = read(refusal, width, [colors, coverages, marks], pixel, fmt, siz, rgb_dither, big_endian);
+        *number = answer.number as u8;
+        word.copy_from_slice(&(answer.value as u16).to_le_bytes());
+    }
+    RunAnswer { number: 0, words: numbers.iter().filter(|number| **number == 0).count() as u64 }
 }

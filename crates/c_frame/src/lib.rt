@@ -1,12 +1,14 @@
-// The C interface of the frame, over plain values: a draw and a word read over three lent slices of colour bytes, coverages and marks. Crate exports gives the calls
+// The C interface of the frame, over plain values: a draw, a word read and a run of words over three lent slices of colour bytes, coverages and marks. Crate exports gives the calls
 // their C names.
 ghost use mathlib.Core.Path.{_≡_};
 ghost use Rattle.frame.specs.Frame.{frameOf};
 ghost use Rattle.draw.specs.Draw.{drawArgs, drawnMeans, drawAnswer, drawFrame};
+ghost use mathlib.Core.List.{[]};
 ghost use Rattle.words.specs.Read.{readArgs, wordMeans, readAnswer};
+ghost use Rattle.words.specs.Run.{runMeans, runAnswer};
 ghost use Rattle.c_types.specs.Convert.{modeOf, encodingOf};
 ghost use Rattle.c_draw.specs.Draws.{geometryFrom};
-ghost use Rattle.c_frame.specs.Frames.{drawnAnswer, wordAnswer};
+ghost use Rattle.c_frame.specs.Frames.{drawnAnswer, wordAnswer, ranAnswer};
 use c_answers::Answer;
 use c_draw::GeometryParts;
 use c_draw::geometry_of;
@@ -16,6 +18,7 @@ use c_types::render_mode;
 use draw::Drawn;
 use mode::CombinerUniform;
 use raster::Scissor;
+use words::Run;
 use words::Word;
 
 // Document 01's number and the count of pixels emitted, with repeats.
@@ -33,6 +36,25 @@ fn drawn(answer: Drawn) -> DrawnAnswer
         Drawn::Refused(number) => DrawnAnswer {
             number: number as u32,
             pixels: 0,
+        },
+    }
+}
+
+// The run's own number and how many words it read.
+#[repr(C)]
+pub struct RanAnswer {
+    pub number: u32,
+    pub words: u64,
+}
+
+fn ran(answer: Run) -> RanAnswer
+    ensures { λ r. ⌜ r ≡ ranAnswer (runMeans answer [] []) ⌝ }
+{
+    match answer {
+        Run::Read(words) => RanAnswer { number: 0, words },
+        Run::Refused(number) => RanAnswer {
+            number: number as u32,
+            words: 0,
         },
     }
 }
@@ -116,4 +138,38 @@ pub fn read_word(
         rgb_dither,
         order,
     ))
+}
+
+pub fn read_words(
+    width: u32,
+    height: u32,
+    colors: &[u8],
+    coverages: &[u8],
+    marks: &[u8],
+    first: usize,
+    fmt: u8,
+    siz: u8,
+    rgb_dither: u8,
+    big_endian: bool,
+    words: &mut [u8],
+    numbers: &mut [u8],
+) -> RanAnswer
+    ensures { λ r. ⌜ r ≡ ranAnswer (runAnswer (readArgs first fmt siz «rgb_dither» (encodingOf «big_endian»)) width height (frameOf (now (colors .entry)) (now (coverages .entry)) (now (marks .entry))) (now (words .entry)) (now (numbers .entry))) ⌝ ∗ ⌜ now (words .exit) ≡ runAnswer (readArgs first fmt siz «rgb_dither» (encodingOf «big_endian»)) width height (frameOf (now (colors .entry)) (now (coverages .entry)) (now (marks .entry))) (now (words .entry)) (now (numbers .entry)) .words ⌝ ∗ ⌜ now (numbers .exit) ≡ runAnswer (readArgs first fmt siz «rgb_dither» (encodingOf «big_endian»)) width height (frameOf (now (colors .entry)) (now (coverages .entry)) (now (marks .entry))) (now (words .entry)) (now (numbers .entry)) .numbers ⌝ }
+{
+    let order = byte_order(big_endian);
+    let answer = words::read_words(
+        width,
+        height,
+        colors,
+        coverages,
+        marks,
+        first,
+        fmt,
+        siz,
+        rgb_dither,
+        order,
+        words,
+        numbers,
+    );
+    ran(answer)
 }

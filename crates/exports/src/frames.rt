@@ -1,14 +1,16 @@
-// The C interface of the frame: a draw and a word read over three lent slices of colour bytes, coverages and marks.
+// The C interface of the frame: a draw, a word read and a run of words over three lent slices of colour bytes, coverages and marks.
 ghost use mathlib.Core.Path.{_≡_};
 ghost use Rattle.frame.specs.Frame.{frameOf};
 ghost use Rattle.draw.specs.Draw.{drawArgs, drawAnswer, drawFrame};
 ghost use Rattle.words.specs.Read.{readArgs, readAnswer};
+ghost use Rattle.words.specs.Run.{runAnswer};
 ghost use Rattle.c_types.specs.Convert.{modeOf, encodingOf};
 ghost use Rattle.c_draw.specs.Draws.{geometryFrom};
-ghost use Rattle.c_frame.specs.Frames.{drawnAnswer, wordAnswer};
+ghost use Rattle.c_frame.specs.Frames.{drawnAnswer, wordAnswer, ranAnswer};
 use c_answers::Answer;
 use c_draw::GeometryParts;
 use c_frame::DrawnAnswer;
+use c_frame::RanAnswer;
 use c_types::Mode;
 use mode::CombinerUniform;
 use raster::Scissor;
@@ -74,5 +76,38 @@ pub extern "C" fn wb_read_word(
         siz,
         rgb_dither,
         big_endian,
+    )
+}
+
+#[no_mangle]
+pub extern "C" fn wb_read_words(
+    width: u32,
+    height: u32,
+    colors: &[u8],
+    coverages: &[u8],
+    marks: &[u8],
+    first: usize,
+    fmt: u8,
+    siz: u8,
+    rgb_dither: u8,
+    big_endian: bool,
+    words: &mut [u8],
+    numbers: &mut [u8],
+) -> RanAnswer
+    ensures { λ r. ⌜ r ≡ ranAnswer (runAnswer (readArgs first fmt siz «rgb_dither» (encodingOf «big_endian»)) width height (frameOf (now (colors .entry)) (now (coverages .entry)) (now (marks .entry))) (now (words .entry)) (now (numbers .entry))) ⌝ ∗ ⌜ now (words .exit) ≡ runAnswer (readArgs first fmt siz «rgb_dither» (encodingOf «big_endian»)) width height (frameOf (now (colors .entry)) (now (coverages .entry)) (now (marks .entry))) (now (words .entry)) (now (numbers .entry)) .words ⌝ ∗ ⌜ now (numbers .exit) ≡ runAnswer (readArgs first fmt siz «rgb_dither» (encodingOf «big_endian»)) width height (frameOf (now (colors .entry)) (now (coverages .entry)) (now (marks .entry))) (now (words .entry)) (now (numbers .entry)) .numbers ⌝ }
+{
+    c_frame::read_words(
+        width,
+        height,
+        colors,
+        coverages,
+        marks,
+        first,
+        fmt,
+        siz,
+        rgb_dither,
+        big_endian,
+        words,
+        numbers,
     )
 }

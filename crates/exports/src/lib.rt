@@ -29,7 +29,7 @@ use mode::Rgba;
 use selectors::AlphaIn;
 use selectors::ColorIn;
 
-mod frames; // a draw and a word read
+mod frames; // a draw, a word read and a run of words
 
 // ---- selectors: combiner.rs
 

@@ -78,7 +78,7 @@ pub fn pack_color(rgba: Rgba8, coverage: u8, dither: u8) -> u16
 }
 
 // The pixel's threshold by the dither mode: 0 and 2 the magic square, 1 Bayer's, else none is rounded up.
-fn threshold(rgb_dither: u8, x: usize, y: usize) -> u8
+pub fn threshold(rgb_dither: u8, x: usize, y: usize) -> u8
     ensures { λ r. ⌜ r ≡ thresholdOf «rgb_dither» x y ⌝ }
 {
     let index = (y & 3) * 4 + (x & 3);
@@ -172,7 +172,7 @@ fn pack_depth_bits(bits: u32) -> u16
 
 impl FramebufferEncoding {
     // A word's bytes as they lie in memory.
-    fn encode_u16(self, word: u16) -> Bytes2
+    pub fn encode_u16(self, word: u16) -> Bytes2
         ensures { λ r. ⌜ r ≡ bytesOf self word ⌝ }
     {
         let low = (word % 256) as u8;

@@ -1,5 +1,5 @@
 -- Demand 3. Of a call the theorem needs three facts, for frames of any shape: on alike frames it answers the same, it leaves alike frames alike, and mark 1 is
--- after it as its last verdict said. Part 1 shows them of a word read, part 2 of a draw, part 3 carries them along a list. A further kind of call is a
+-- after it as its last verdict said. Part 1 shows them of a word read and of a run of them, part 2 of a draw, part 3 carries them along a list. A further kind of call is a
 -- further constructor with its three facts. Assumes nothing.
 use Prim.Native.Nat.{ℕ, zero, suc, _*_, _<_}
 use mathlib.Core.Path.{_≡_, refl, sym, ap, ap₂, subst, _∙_}
@@ -29,6 +29,8 @@ use Rattle.draw.specs.Steps.{sourceOf, stepFrame, drawList}
 use Rattle.frame.specs.Checks.{frameRefusal, orElse}
 use Rattle.draw.specs.Checks.{scissorOk, inputsOk, entryRefusal}
 use Rattle.draw.specs.Draw.{DrawArgs, Plan, emittedBy, admittedPlan, madePlan, refuseOr, planOf, answerBy, frameBy, drawAnswer, drawFrame}
+use Rattle.words.specs.Run.{readAt, RunAnswer, runBy, runAnswer}
+use Rattle.words.proofs.Answers.{answers-same}
 use Rattle.words.specs.Read.{ReadArgs, writerOf, wordRefusal, readRefusal, wordOf, wordOr, readAnswer}
 use Rattle.secrecy.specs.Runs.{Call, Answer, Said, answerTo, frameAfter, answers, after, verdictAt, verdicts, saidByPlan, saidBy, said, lastAt, knownAt, Secret}
 use Rattle.frame.specs.Alike.{Alike}
@@ -78,6 +80,16 @@ module _ (w h : ℕ) {f g : Frame} (a : Alike f g) (r : ReadArgs) where
       go zero e =
           ap (wordOr 0) (word-same r w (cellAt f (r .pixel)) (cellAt g (r .pixel)) (a .cells (r .pixel)) (read-marked r w h f e))
       go (suc k) e = refl
+
+-- a run is its single reads, one after the other
+module _ (w h : ℕ) {f g : Frame} (a : Alike f g) (r : ReadArgs) (ws ns : List ℕ) where
+  run-same : runAnswer r w h f ws ns ≡ runAnswer r w h g ws ns
+  unfolding runAnswer
+  run-same =
+      ap (λ (x : RunAnswer). cond (eqb (length ws) (2 * length ns)) x (record { number = 19; count = 0; words = ws; numbers = ns }))
+      (ap runBy
+      (answers-same (λ (i : ℕ). readAnswer (readAt r i) w h f) (λ (i : ℕ). readAnswer (readAt r i) w h g) 0 (length ns)
+      (λ i p q. read-same w h a (readAt r i))))
 
 -- ---- part 2: a draw. The frame enters its plan only by numbers 1 to 3
 module _ (w h : ℕ) {f g : Frame} (a : Alike f g) (d : DrawArgs) where
@@ -190,6 +202,12 @@ module _ (w h : ℕ) where
         alike = λ f g a. a;
         marked = λ f p. refl;
       }
+  keeps (Call.reads r ws ns) =
+      record {
+        same = λ f g a. ap Answer.run (run-same w h a r ws ns);
+        alike = λ f g a. a;
+        marked = λ f p. refl;
+      }
 
   same-answers : (os : List Call) (f g : Frame) → Alike f g → answers w h os f ≡ answers w h os g
   same-answers [] f g a = refl
@@ -208,7 +226,7 @@ module _ (w h : ℕ) where
       ∙ ap (lastAt p (said w h os (frameAfter w h o f))) (keeps o .marked f p)
       ∙ sym (last-append p (saidBy w h o f) (said w h os (frameAfter w h o f)) (knownAt p f))
 
--- For every list of draws and word reads, refused ones included, made in order on two frames that are alike in sizes, slice lengths, marks, known colours and
+-- For every list of draws, word reads and runs of them, refused ones included, made in order on two frames that are alike in sizes, slice lengths, marks, known colours and
 -- known coverages: the answers are the same from first to last, the frames are alike after it, and on each a pixel's colour is then marked known exactly when F1
 -- and F2 said yes to the last pixel that the list's accepted draws emitted there, or, if they emitted none there, when it was so marked at the start.
 pub secret : (w h : ℕ) (os : List Call) (f g : Frame) → Alike f g → Secret w h os f g

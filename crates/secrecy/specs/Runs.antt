@@ -1,4 +1,4 @@
--- Demand 3: any list of draws and word reads on one frame, and what the verdicts of F1 and F2 said of a pixel. Definitions only. Source: document 00, demand 3,
+-- Demand 3: any list of draws, word reads and runs of them on one frame, and what the verdicts of F1 and F2 said of a pixel. Definitions only. Source: document 00, demand 3,
 -- and document 01, "For demand 3". The sizes w and h are fixed with the frame; a list starts from any sizes and slices, also ones that numbers 1 to 3 refuse.
 use Prim.Native.Nat.{ℕ}
 use mathlib.Core.Path.{_≡_}
@@ -16,6 +16,7 @@ use Rattle.frame.specs.Alike.{Alike}
 use Rattle.draw.specs.Steps.{sourceOf, stepFrame}
 use Rattle.draw.specs.Draw.{DrawArgs, Plan, planOf, DrawAnswer, drawAnswer, drawFrame}
 use Rattle.words.specs.Read.{ReadArgs, WordAnswer, readAnswer}
+use Rattle.words.specs.Run.{RunAnswer, runAnswer}
 
 -- ---- a list of calls
 
@@ -23,11 +24,14 @@ use Rattle.words.specs.Read.{ReadArgs, WordAnswer, readAnswer}
 pub data Call : Type 0 where
   draw : DrawArgs → Call
   read : ReadArgs → Call
+  -- a run, with the lent slices for words and numbers as they are before it
+  reads : ReadArgs → List ℕ → List ℕ → Call
 
--- number and pixel count, or number and word bytes
+-- number and pixel count, number and word bytes, or a run's number and count with the two slices after it
 pub data Answer : Type 0 where
   drawn : DrawAnswer → Answer
   word : WordAnswer → Answer
+  run : RunAnswer → Answer
 
 -- a pixel and a verdict on it
 pub record Said : Type 0 where
@@ -38,11 +42,13 @@ module _ (w h : ℕ) where
   abbrev pub answerTo : Call → Frame → Answer
   answerTo (Call.draw d) f = Answer.drawn (drawAnswer d w h f)
   answerTo (Call.read a) f = Answer.word (readAnswer a w h f)
+  answerTo (Call.reads a ws ns) f = Answer.run (runAnswer a w h f ws ns)
 
-  -- a word read and a refused call leave every byte
+  -- a word read, a run of them and a refused call leave every byte
   abbrev pub frameAfter : Call → Frame → Frame
   frameAfter (Call.draw d) f = drawFrame d w h f
   frameAfter (Call.read a) f = f
+  frameAfter (Call.reads a ws ns) f = f
 
   -- the answers to a list, each call on the frame that the call before left
   abbrev pub answers : List Call → Frame → List Answer
@@ -77,6 +83,7 @@ module _ (w h : ℕ) where
   unfoldable pub saidBy : Call → Frame → List Said
   saidBy (Call.draw d) f = saidByPlan (d .mode) f (planOf d w h f)
   saidBy (Call.read a) f = []
+  saidBy (Call.reads a ws ns) f = []
 
   abbrev pub said : List Call → Frame → List Said
   said [] f = []
