@@ -1,55 +1,18 @@
-//! Finds the Rust original and the library, and writes the module declarations that name them.
+//! Finds the library.
 
-use std::path::{Path, PathBuf};
-use std::{env, fs};
-
-/// The folder that the variable names, or the default as seen from the package.
-fn folder(variable: &str, default: &str) -> PathBuf {
-    println!("cargo:rerun-if-env-changed={variable}");
-    let package = PathBuf::from(env::var("CARGO_MANIFEST_DIR").unwrap());
-    package.join(env::var(variable).unwrap_or_else(|_| default.into()))
-}
-
-/// The path of a file that must be there, and whose change builds again.
-fn file(path: PathBuf) -> PathBuf {
-    println!("cargo:rerun-if-changed={}", path.display());
-    assert!(path.is_file(), "{} is missing", path.display());
-    path.canonicalize().unwrap()
-}
-
-/// The declaration of a module whose text is a file.
-fn module(name: &str, path: &Path) -> String {
-    format!("#[path = {:?}]\npub mod {name};\n", path)
-}
-
-/// The original's whole text, byte for byte, and after it a child module of ours: only a child sees a file's private
-/// items. (`include!` refuses a file that opens with an inner attribute, as coherence.rs does.)
-fn with_reach(name: &str, original: &Path, reach: &Path, out: &Path) -> String {
-    let text = fs::read_to_string(original).unwrap();
-    let whole = out.join(format!("{name}.rs"));
-    fs::write(&whole, format!("{text}\n{}", module("reach", reach))).unwrap();
-    module(name, &whole)
-}
+use std::env;
+use std::path::PathBuf;
 
 fn main() {
-    let out = PathBuf::from(env::var("OUT_DIR").unwrap());
-    let source = folder("RUST_SRC", "../../shared/docs/src").join("ultragfx/src");
-    let ours = PathBuf::from(env::var("CARGO_MANIFEST_DIR").unwrap()).join("original");
-
-    let hle = ["blender", "combiner"].map(|name| module(name, &file(source.join(format!("hle/{name}.rs")))));
-    fs::write(out.join("hle_modules.rs"), hle.concat()).unwrap();
-
-    let framebuffers = ["coherence", "writeback"].map(|name| {
-        let original = file(source.join(format!("render/framebuffers/{name}.rs")));
-        let reach = file(ours.join(format!("reach_{name}.rs")));
-        with_reach(name, &original, &reach, &out)
-    });
-    fs::write(out.join("framebuffers_modules.rs"), framebuffers.concat()).unwrap();
-
-    if env::var_os("CARGO_FEATURE_MOCK").is_none() {
-        let library = folder("LIBRARY", "../target/staticlib");
-        file(library.join("libexports.a"));
-        println!("cargo:rustc-link-search=native={}", library.display());
-        println!("cargo:rustc-link-lib=static=exports");
+    if env::var_os("CARGO_FEATURE_MOCK").is_some() {
+        return;
     }
+    println!("cargo:rerun-if-env-changed=LIBRARY");
+    let package = PathBuf::from(env::var("CARGO_MANIFEST_DIR").unwrap());
+    let library = package.join(env::var("LIBRARY").unwrap_or_else(|_| "../target/staticlib".into()));
+    let archive = library.join("libexports.a");
+    println!("cargo:rerun-if-changed={}", archive.display());
+    assert!(archive.is_file(), "{} is missing", archive.display());
+    println!("cargo:rustc-link-search=native={}", library.canonicalize().unwrap().display());
+    println!("cargo:rustc-link-lib=static=exports");
 }

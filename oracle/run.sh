@@ -11,11 +11,10 @@ if [ ! -d "$RUST_SRC/ultragfx" ]; then
   echo "oracle: no Rust sources at $RUST_SRC: the comparison is left out"
   exit 0
 fi
-log=$(mktemp)
-trap 'rm -f "$log"' EXIT
-if ! (cd .. && rt staticlib exports) > "$log" 2>&1; then
-  tail -n 40 "$log" >&2
-  exit 1
-fi
+../library.sh
 cargo build --release --offline --quiet
 target/release/oracle "$@"
+if [ $# = 0 ]; then
+  # The player's crate and its sample beside the original.
+  cargo test --release --offline --quiet
+fi

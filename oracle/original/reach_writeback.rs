@@ -135,6 +135,19 @@ impl Shape {
         super::admitted(&self.draw, &self.vertices)
     }
 
+    /// `blend` with the draw's own mode and combiner.
+    pub fn blend(
+        &self,
+        rgba: [f32; 4],
+        memory: [f32; 4],
+        shade_alpha: f32,
+        count: u8,
+        coverage: u8,
+    ) -> [u8; 4] {
+        let combiner = self.draw.combiner.as_ref().unwrap();
+        super::blend(self.draw.mode.unwrap(), combiner, rgba, memory, shade_alpha, count, coverage)
+    }
+
     pub fn rasterize(&self, extent: (usize, usize), pixel: impl FnMut(usize, u8, [f32; 4], f32)) {
         super::rasterize(&self.draw, &self.vertices, extent, pixel);
     }

@@ -5,38 +5,14 @@
 //!     oracle record-lists [SEED]     write a sample of lists of draws and word reads
 #![deny(unsafe_code)]
 
-mod calls;
-mod compare;
-mod compare_combiner;
-mod compare_frame;
-mod compare_numbers;
-mod compare_pack;
-mod compare_pixel;
-mod compare_raster;
-mod compare_runs;
-mod compare_selectors;
-mod draws;
-mod frame;
-mod inputs;
-#[allow(unsafe_code)]
-mod library;
-mod lists;
-#[cfg(feature = "mock")]
-#[allow(unsafe_code)]
-mod mock;
-#[cfg(feature = "mock")]
-#[allow(unsafe_code)]
-mod mock_draw;
-mod record;
-mod record_lists;
-mod rust;
-mod shapes;
-mod words;
-
-use calls::*;
-use compare::{run, Line, Outcome, Part};
-use compare_numbers::one_float;
-use compare_selectors::table;
+use oracle::calls::*;
+use oracle::compare::{run, Line, Outcome, Part};
+use oracle::compare_numbers::one_float;
+use oracle::compare_selectors::table;
+use oracle::{
+    compare_combiner, compare_frame, compare_numbers, compare_pack, compare_pixel, compare_raster, compare_runs,
+    compare_selectors, record, record_lists,
+};
 use std::process::ExitCode;
 
 // The native order of bytes is document 01's little-endian one.

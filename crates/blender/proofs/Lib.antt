@@ -2,3 +2,4 @@
 pub mod Picked
 pub mod Range
 pub mod KnownCoverage
+pub mod Solid

@@ -59,3 +59,7 @@ blendOf mode combiner rgba memory shade n c =
     bytesOf (alone mode (rgba .a) n (Known c)) (mode .«force_blend»)
     (sourceOf (x .p) combiner rgba memory) a (sourceOf (x .m) combiner rgba memory) (factorB (x .b) a c)
     (rgba .a)
+
+-- P of a pixel that is opaque
+unfoldable pub ownOf : RenderMode → Combiner → Rgba → Rgba
+ownOf mode combiner rgba = sourceOf (muxOf (mode .«blender_mux») .p) combiner rgba rgba

@@ -43,3 +43,9 @@ colorKnown mode alpha n coverage memory =
     (cond (alone mode alpha n coverage) true
     (cond (missing (x .m) memory) false
     (whereUnknown coverage (anyCoverage mode))))
+
+-- nothing of the memory enters the pixel's colour: P is not the memory's, and P is stored as it is whatever the coverage
+unfoldable pub opaqueOf : RenderMode → Float → Bool
+opaqueOf mode alpha =
+    let x = muxOf (mode .«blender_mux») in
+    not (eqb (x .p) 1) && (reject mode alpha || not (mode .«force_blend» || mode .antialias))

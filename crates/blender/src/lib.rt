@@ -6,8 +6,8 @@ ghost use mathlib.Core.Path.{_≡_};
 ghost use Prim.Native.Nat.{_≤_};
 ghost use Rattle.blender.specs.Mux.{muxOf};
 ghost use Rattle.blender.specs.Coverage.{overflows, blends, clampOf, destinationOf};
-ghost use Rattle.blender.specs.Known.{reject, alone, missing, anyCoverage, colorKnown};
-ghost use Rattle.blender.specs.Blend.{sourceOf, factorA, factorB, divisorOf, mixedOf, bytesOf, blendOf};
+ghost use Rattle.blender.specs.Known.{reject, alone, missing, anyCoverage, colorKnown, opaqueOf};
+ghost use Rattle.blender.specs.Blend.{sourceOf, factorA, factorB, divisorOf, mixedOf, bytesOf, blendOf, ownOf};
 
 // A pixel's coverage in memory, 0 to 7 for 1 to 8 samples, or that it is not known.
 pub enum Coverage {
@@ -125,6 +125,23 @@ fn stands_alone(mode: RenderMode, alpha: f32, count: u8, coverage: Coverage) -> 
     true
 }
 
+// Whether nothing of the memory enters the pixel's colour.
+pub fn opaque(mode: RenderMode, alpha: f32) -> bool
+    ensures { λ r. ⌜ r ≡ opaqueOf mode alpha ⌝ }
+{
+    let mux = decode_mux(mode.blender_mux);
+    if mux.p == 1 {
+        return false;
+    }
+    if rejects(mode, alpha) {
+        return true;
+    }
+    if mode.force_blend {
+        return false;
+    }
+    !mode.antialias
+}
+
 // Whether a selector of P or M names the memory's colour while that is not known.
 fn lacking(selector: u32, memory_rgb: bool) -> bool
     ensures { λ r. ⌜ r ≡ missing selector «memory_rgb» ⌝ }
@@ -234,6 +251,14 @@ fn mixed(stands: bool, forced: bool, p: f32, a: f32, m: f32, b: f32) -> f32
         return sum;
     }
     sum / divisor(a + b)
+}
+
+// The colour of a pixel that is opaque: P is not the memory's.
+pub fn own_color(mode: RenderMode, combiner: Combiner, rgba: Rgba) -> Rgba
+    ensures { λ r. ⌜ r ≡ ownOf mode combiner rgba ⌝ }
+{
+    let mux = decode_mux(mode.blender_mux);
+    source(mux.p, combiner, rgba, rgba)
 }
 
 // The three mixed channels and the pixel's alpha, as bytes.

@@ -1,4 +1,5 @@
 -- The definitions that the contracts of `cell` cite, and what it is for two pixels to be alike.
 pub mod Marks
 pub mod Rules
+pub mod Own
 pub mod Alike

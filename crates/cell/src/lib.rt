@@ -4,6 +4,7 @@ ghost use mathlib.Core.Path.{_≡_};
 ghost use mathlib.Core.Bool.{cond};
 ghost use Prim.Native.Nat.{_≤_};
 ghost use Rattle.cell.specs.Marks.{colorMarked, coverageMarked, coverageOf, unknown, markOf};
+ghost use Rattle.cell.specs.Own.{ownColors, coverCell, sevenOf, setsOf};
 ghost use Rattle.cell.specs.Rules.{ruleF2, verdictOf, unit, memoryOf, orZero, ruleF3, ruleF4, freshCoverage, ruleF5, coverageByte, cellStep};
 use blender::Coverage;
 use combiner::Combiner;
@@ -235,8 +236,65 @@ fn kept_or_known(coverage: Coverage, old: u8) -> u8
     }
 }
 
-// F1 to F5: the five bytes of a pixel after it is emitted once. Numbers 1 to 3 leave no known coverage above 7.
-pub fn cell_step(mode: RenderMode, combiner: Combiner, source: Source, cell: Cell) -> Cell
+// The bytes of a pixel's own colour.
+pub fn own_colors(mode: RenderMode, combiner: Combiner, color: Rgba) -> Colors
+    ensures { λ r. ⌜ r ≡ ownColors mode combiner color ⌝ }
+{
+    let own = blender::own_color(mode, combiner, color);
+    Colors {
+        red: num::byte_of(own.r),
+        green: num::byte_of(own.g),
+        blue: num::byte_of(own.b),
+    }
+}
+
+// An opaque pixel with these colours: F5 alone meets the memory.
+pub fn cover(mode: RenderMode, count: u8, colors: Colors, cell: Cell) -> Cell
+    requires { ⌜ (1 ≤ count) × (count ≤ 8) ⌝ ∗ ⌜ orZero (coverageOf (cell .mark) (cell .coverage)) ≤ 7 ⌝ }
+    ensures { λ r. ⌜ r ≡ coverCell mode count colors cell ⌝ }
+{
+    let old = cell.coverage;
+    let coverage = coverage_of(cell.mark, old);
+    let after = next_coverage(mode, count, coverage);
+    Cell {
+        red: colors.red,
+        green: colors.green,
+        blue: colors.blue,
+        coverage: kept_or_known(after, old),
+        mark: mark_of(true, after),
+    }
+}
+
+// Whether a known coverage becomes 7 under a pixel with all samples.
+pub fn seven(mode: RenderMode) -> bool
+    ensures { λ r. ⌜ r ≡ sevenOf mode ⌝ }
+{
+    let dst = mode.cvg_dst;
+    if dst == 0 {
+        return true;
+    }
+    dst == 2
+}
+
+// Whether an unknown one does.
+pub fn sets(mode: RenderMode) -> bool
+    ensures { λ r. ⌜ r ≡ setsOf mode ⌝ }
+{
+    let dst = mode.cvg_dst;
+    if dst == 2 {
+        return true;
+    }
+    if dst != 0 {
+        return false;
+    }
+    if mode.force_blend {
+        return false;
+    }
+    !mode.antialias
+}
+
+// F1 to F5 as they stand: for a pixel whose colour may turn on the memory's.
+pub fn meet(mode: RenderMode, combiner: Combiner, source: Source, cell: Cell) -> Cell
     requires { ⌜ (1 ≤ source .count) × (source .count ≤ 8) ⌝ ∗ ⌜ orZero (coverageOf (cell .mark) (cell .coverage)) ≤ 7 ⌝ }
     ensures { λ r. ⌜ r ≡ cellStep mode combiner source cell ⌝ }
 {
@@ -254,4 +312,17 @@ pub fn cell_step(mode: RenderMode, combiner: Combiner, source: Source, cell: Cel
         coverage: kept_or_known(after, old),
         mark: mark_of(yes, after),
     }
+}
+
+// F1 to F5: the five bytes of a pixel after it is emitted once. Numbers 1 to 3 leave no known coverage above 7.
+pub fn cell_step(mode: RenderMode, combiner: Combiner, source: Source, cell: Cell) -> Cell
+    requires { ⌜ (1 ≤ source .count) × (source .count ≤ 8) ⌝ ∗ ⌜ orZero (coverageOf (cell .mark) (cell .coverage)) ≤ 7 ⌝ }
+    ensures { λ r. ⌜ r ≡ cellStep mode combiner source cell ⌝ }
+{
+    if blender::opaque(mode, source.color.a) {
+        let color = source.color;
+        let own = own_colors(mode, combiner, color);
+        return cover(mode, source.count, own, cell);
+    }
+    meet(mode, combiner, source, cell)
 }

@@ -78,11 +78,11 @@ module _ {A : Type 0} (none : A) (make : Float → Float → Float → Float →
   with-all (Value x) (Value y) (Value z) Refused = is
   with-all (Value x) (Value y) (Value z) (Value w) = isnt x y z w
 
-mixed-missing : (a b c d : Input) → missing (mixed a b c d) ≡ (missing a || missing b || missing c || missing d)
+pub mixed-missing : (a b c d : Input) → missing (mixed a b c d) ≡ (missing a || missing b || missing c || missing d)
 unfolding mixed
 mixed-missing a b c d = with-all Refused (λ a b c d. Value (channelOf a b c d)) missing refl (λ a b c d. refl) a b c d
 
-joined-refused : (a b c d : Input) → refused (joined a b c d) ≡ (missing a || missing b || missing c || missing d)
+pub joined-refused : (a b c d : Input) → refused (joined a b c d) ≡ (missing a || missing b || missing c || missing d)
 unfolding joined
 joined-refused a b c d = with-all color.Refused color.Value refused refl (λ a b c d. refl) a b c d
 

@@ -2,3 +2,5 @@
 pub mod Combine
 pub mod Strict
 pub mod New
+pub mod Shaded
+pub mod Mixer

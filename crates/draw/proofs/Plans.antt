@@ -24,10 +24,12 @@ use Rattle.draw.specs.declared.Accepted.the-variants as accept
 use Rattle.draw.specs.declared.Drawn.{Drawn}
 use Rattle.draw.specs.declared.Drawn.the-variants as drawn
 use Rattle.frame.specs.Frame.{Frame, Fit}
-use Rattle.draw.specs.Steps.{Drew}
-use Rattle.draw.specs.Parts.{Room}
+use Rattle.paint.specs.Steps.{Drew}
+use Rattle.paint.specs.Pixel.{Room}
 use Rattle.frame.specs.Checks.{frameRefusal, orElse}
 use Rattle.draw.specs.Checks.{scissorOk, flagsOk, inputsOk, entryRefusal}
+use Rattle.combiner.proofs.Mixes.{new-mixes}
+use Rattle.paint.specs.Pen.{Mixed}
 use Rattle.draw.specs.Draw.{DrawArgs, Plan, emittedBy, admittedPlan, madePlan, refuseOr, planOf, planBy, drawnMeans, Numbered, answerBy, frameBy, drawAnswer, drawFrame}
 use Rattle.frame.proofs.Fits.{accepted}
 
@@ -64,19 +66,19 @@ module _ (d : DrawArgs) (w h : ℕ) (f : Frame) where
 clash : {n : ℕ} {x : Combiner} {es : List Emit} → Plan.accept x es ≡ Plan.refuse n → ⊥
 clash p = let z : _≡_ {A = ℕ} 0 1 = cc in omega arith
 
-abbrev Taken : DrawArgs → Combiner → ℕ → Type 0
-Taken d x k = (k ≡ 0) × (admittedOf x (d .geometry) (d .vertices) (d .present) (d .indices) ≡ true)
+abbrev Taken : DrawArgs → Combiner → ℕ → Made → Type 0
+Taken d x k md = (k ≡ 0) × ((admittedOf x (d .geometry) (d .vertices) (d .present) (d .indices) ≡ true) × (md ≡ made.With x))
 
 module _ (d : DrawArgs) (w h : ℕ) {x : Combiner} {es : List Emit} where
   taken-by :
       (y : Combiner) (b : Bool) → admittedOf y (d .geometry) (d .vertices) (d .present) (d .indices) ≡ b
-      → Plan.accept x es ≡ cond b (Plan.accept y (emittedBy d w h y)) (Plan.refuse 7) → Taken d x 0
+      → Plan.accept x es ≡ cond b (Plan.accept y (emittedBy d w h y)) (Plan.refuse 7) → Taken d x 0 (made.With y)
   taken-by y true e p =
       let q : y ≡ x = cc in
-      (refl, ap (λ (k : Combiner). admittedOf k (d .geometry) (d .vertices) (d .present) (d .indices)) (sym q) ∙ e)
+      (refl, (ap (λ (k : Combiner). admittedOf k (d .geometry) (d .vertices) (d .present) (d .indices)) (sym q) ∙ e, ap made.With q))
   taken-by y false e p = absurd (clash p)
 
-  plan-taken : (k : ℕ) (md : Made) → Plan.accept x es ≡ refuseOr k (madePlan d w h md) → Taken d x k
+  plan-taken : (k : ℕ) (md : Made) → Plan.accept x es ≡ refuseOr k (madePlan d w h md) → Taken d x k md
   plan-taken zero made.Without p = absurd (clash p)
   plan-taken zero (made.With y) p = taken-by y (admittedOf y (d .geometry) (d .vertices) (d .present) (d .indices)) refl p
   plan-taken (suc k) md p = absurd (clash p)
@@ -171,16 +173,16 @@ module _ (d : DrawArgs) (w h : ℕ) (f : Frame) where
       accepted-plan : Plan.accept x (emittedBy d w h x) ≡ planOf d w h f
       accepted-plan = ap (planBy d w h) (sym er) ∙ e
 
-      facts : Taken d x (entryRefusal f w h (d .scissor) (d .vertices) (d .present) (d .indices))
+      facts : Taken d x (entryRefusal f w h (d .scissor) (d .vertices) (d .present) (d .indices)) (newOf (d .uniform) (d .mode))
       unfolding planOf
       facts = plan-taken d w h (entryRefusal f w h (d .scissor) (d .vertices) (d .present) (d .indices)) (newOf (d .uniform) (d .mode)) accepted-plan
 
       pub drawable :
-          (length (d .indices) ≤ 12288)
+          ((length (d .indices) ≤ 12288) × Mixed x)
           × ((admittedOf x (d .geometry) (d .vertices) (d .present) (d .indices) ≡ true) × (Sized (d .scissor) w h × Room w h f))
       drawable =
           let y = entered f w h (d .scissor) (d .vertices) (d .present) (d .indices) (facts .0) in
-          (y .few, (facts .1, (y .sized, y .room)))
+          ((y .few, new-mixes (d .uniform) (d .mode) (facts .1 .1)), (facts .1 .0, (y .sized, y .room)))
 
       pub draw-accepted :
           {m n : ℕ} {g : Frame} → Drew (d .mode) x m (emittedBy d w h x) f g n

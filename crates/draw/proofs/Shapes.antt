@@ -48,9 +48,11 @@ use Rattle.raster.proofs.Kept.{row-kept, rows-kept, rect-row-kept, rect-rows-ke
 use Rattle.raster.proofs.Masks.{triangle-count, rectangle-count}
 use Rattle.raster.proofs.Parts.{parts-bound}
 use Rattle.frame.specs.Frame.{Frame, Fit}
-use Rattle.draw.specs.Steps.{Drew}
-use Rattle.draw.specs.Parts.{Counted, Placed, trianglePixel, triangleRow, rectangleRow}
-use Rattle.draw.proofs.Drawing.{drew-as}
+use Rattle.paint.specs.Steps.{Drew}
+use Rattle.paint.specs.Pixel.{Counted}
+use Rattle.draw.specs.Parts.{Placed, trianglePixel, triangleRow, rectangleRow}
+use Rattle.paint.proofs.Drawing.{drew-as}
+use Rattle.paint.proofs.Joins.{row-most}
 
 -- ---- a pixel
 module _ (antialias : Bool) (k : Combiner) (o : List Vertex) (e : Edges) (y x : ℕ) where
@@ -73,14 +75,7 @@ module _ {mode : RenderMode} {k : Combiner} {m : ℕ} {f g : Frame} {n : ℕ} wh
   pub drew-fragment : (p : ℕ) {r q : Fragment} → r ≡ q → Drew mode k m (emits r p) f g n → Drew mode k m (emits q p) f g n
   drew-fragment p e = drew-as (ap (λ (r : Fragment). emits r p) e)
 
--- ---- how many a row and the rows emit
-emits-most : (r : Fragment) (p : ℕ) → length (emits r p) ≤ 1
-emits-most Empty p = omega arith
-emits-most (Covered m r g b a s) p = omega arith
-
-pub row-most : (r : ℕ → Fragment) (p : ℕ → ℕ) (a b : ℕ) → length (from (λ (x : ℕ). emits (r x) (p x)) a b) ≤ b - a
-row-most r p a b = omega (arith, parts-bound (λ (x : ℕ). emits (r x) (p x)) 1 (λ x. emits-most (r x) (p x)) (b - a) a)
-
+-- ---- how many the rows emit
 pub rows-most :
     (r : ℕ → ℕ → Fragment) (p : ℕ → ℕ → ℕ) (a b c d : ℕ) → b ≤ 1024
     → length (from (λ (y : ℕ). from (λ (x : ℕ). emits (r y x) (p y x)) a b) c d) ≤ (d - c) * 1024

@@ -20,7 +20,7 @@ use Rattle.draw.specs.declared.Accepted.the-variants as accepted
 use Rattle.draw.specs.declared.Drawn.{Drawn}
 use Rattle.draw.specs.declared.Drawn.the-variants.{Emitted, Refused}
 use Rattle.frame.specs.Frame.{Frame}
-use Rattle.draw.specs.Steps.{drawList}
+use Rattle.paint.specs.Steps.{drawList}
 use Rattle.draw.specs.Checks.{entryRefusal}
 
 -- everything that a draw carries but the frame

@@ -1,5 +1,4 @@
 -- The definitions that the contracts of `draw` cite.
-pub mod Steps
 pub mod Parts
 pub mod Checks
 pub mod Draw

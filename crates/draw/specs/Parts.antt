@@ -1,11 +1,10 @@
--- The parts of a draw as the code goes through them: an emitted pixel, and the pixels and rows of a triangle and of a rectangle. Definitions only.
-use Prim.Native.Nat.{ℕ, _+_, _*_, _/_, _≤_}
+-- The parts of a draw as the code goes through them: the pixels and rows of a triangle and of a rectangle. Definitions only.
+use Prim.Native.Nat.{ℕ, _+_, _*_, _/_}
 use mathlib.Core.Bool.{Bool}
 use mathlib.Core.List.{List, [], _∷_, map}
 use lib.Ieee.{Float}
 use lib.ListN.{length}
 use Rattle.mode.specs.declared.RenderMode.{RenderMode}
-use Rattle.mode.specs.declared.Rgba.{Rgba}
 use Rattle.combiner.specs.declared.Combiner.{Combiner}
 use Rattle.combiner.specs.declared.Color.{Color}
 use Rattle.vertex.specs.declared.Vertex.{Vertex}
@@ -13,35 +12,12 @@ use Rattle.edges.specs.declared.Edges.{Edges}
 use Rattle.edges.specs.declared.Tri.{Tri}
 use Rattle.vertex.specs.Sorted.{sorted}
 use Rattle.edges.specs.Limits.{AllNear}
-use Rattle.edges.specs.Sample.{countOf}
 use Rattle.edges.specs.Span.{edgesOf}
 use Rattle.rectangle.specs.declared.Sides.{Sides}
 use Rattle.raster.specs.declared.Scissor.{Scissor}
-use Rattle.raster.specs.declared.Fragment.{Fragment}
-use Rattle.raster.specs.declared.Fragment.the-variants.{Empty, Covered}
 use Rattle.raster.specs.Parts.{from}
 use Rattle.raster.specs.Admitted.{triangleAt}
 use Rattle.raster.specs.Emitted.{Emit, emits, cornerOf, triangleFragment, threeEmits, rectangleFragment}
-use Rattle.frame.specs.Frame.{Frame, Fit}
-
-abbrev pub emitOf : ℕ → ℕ → Rgba → Float → Emit
-emitOf pixel mask color shade = record { pixel = pixel; mask = mask; color = color; shade = shade }
-
--- the number of samples of a pixel that emits something; 1 stands for one that does not
-abbrev pub samplesOf : Fragment → ℕ
-samplesOf Empty = 1
-samplesOf (Covered mask r g b a shade) = countOf mask
-
--- a pixel that emits something has 1 to 8 samples
-abbrev pub Counted : Fragment → Type 0
-Counted fragment = (1 ≤ samplesOf fragment) × (samplesOf fragment ≤ 8)
-
--- a frame whose rows above b, each of w pixels, are there, and which numbers 1 to 3 let through
-pub record Room (w b : ℕ) (f : Frame) : Type 0 where
-  pub wide : w ≤ 1024
-  pub high : b ≤ 1024
-  pub there : b * w ≤ length (f .marks)
-  pub fit : Fit (length (f .marks)) f
 
 -- pixel (x, y) of a triangle in a frame of width w, and its row y from l to r
 abbrev pub trianglePixel : RenderMode → Combiner → List Vertex → ℕ → Edges → ℕ → ℕ → List Emit

@@ -7,8 +7,9 @@ ghost use Rattle.raster.specs.Admitted.{admittedOf};
 ghost use Rattle.raster.specs.Area.{Sized};
 ghost use Rattle.raster.specs.Emitted.{geometryEmits};
 ghost use Rattle.frame.specs.Frame.{frameOf};
-ghost use Rattle.draw.specs.Steps.{Drew};
-ghost use Rattle.draw.specs.Parts.{Room};
+ghost use Rattle.paint.specs.Steps.{Drew};
+ghost use Rattle.paint.specs.Pixel.{Room};
+ghost use Rattle.paint.specs.Pen.{Mixed};
 ghost use Rattle.draw.specs.Draw.{drawArgs, planBy, planOf, drawnMeans, drawAnswer, drawFrame, Numbered};
 use combiner::Combiner;
 use combiner::Made;
@@ -19,7 +20,6 @@ use raster::Scissor;
 use rectangle::Sides;
 
 mod checks; // numbers 4 and 5
-mod pixels; // one emitted pixel
 mod triangles; // the pixels of triangles
 mod rectangles; // and of a rectangle
 
@@ -90,9 +90,10 @@ fn draw_geometry(
     present: &[u8],
     indices: &[u32],
 ) -> u64
-    requires { ⌜ length (now indices) ≤ 12288 ⌝ ∗ ⌜ admittedOf combiner geometry (now vertices) (now present) (now indices) ≡ true ⌝ ∗ ⌜ Sized scissor width height ⌝ ∗ ⌜ Room width height (frameOf (now colors) (now coverages) (now marks)) ⌝ }
+    requires { ⌜ (length (now indices) ≤ 12288) × Mixed combiner ⌝ ∗ ⌜ admittedOf combiner geometry (now vertices) (now present) (now indices) ≡ true ⌝ ∗ ⌜ Sized scissor width height ⌝ ∗ ⌜ Room width height (frameOf (now colors) (now coverages) (now marks)) ⌝ }
     ensures { λ r. ⌜ Drew mode combiner (length (now (marks .entry))) (geometryEmits mode combiner cull scissor width height (now (vertices .entry)) (now (present .entry)) (now (indices .entry)) geometry) (frameOf (now (colors .entry)) (now (coverages .entry)) (now (marks .entry))) (frameOf (now (colors .exit)) (now (coverages .exit)) (now (marks .exit))) r ⌝ }
 {
+    let pen = paint::pen::pen_of(mode, combiner);
     match geometry {
         Geometry::Nothing => 0,
         Geometry::Rectangle(left, top, right, bottom) => {
@@ -102,24 +103,13 @@ fn draw_geometry(
                 right,
                 bottom,
             };
-            rectangles::draw_rectangle(
-                colors,
-                coverages,
-                marks,
-                mode,
-                combiner,
-                scissor,
-                width,
-                height,
-                sides,
-            )
+            rectangles::draw_rectangle(colors, coverages, marks, pen, scissor, width, height, sides)
         }
         Geometry::Triangles => triangles::draw_triangles(
             colors,
             coverages,
             marks,
-            mode,
-            combiner,
+            pen,
             cull,
             scissor,
             width,

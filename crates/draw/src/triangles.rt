@@ -1,4 +1,4 @@
-// The pixels of a triangle (writeback.rs, `rasterize`): a span of a row, a row, the rows, and the triangles of a list. Each call draws its part and answers how
+// The pixels of a triangle (writeback.rs, `rasterize`): a row, the rows, and the triangles of a list. Each call draws its part and answers how
 // many pixels that emitted.
 ghost use mathlib.Core.Path.{_≡_};
 ghost use mathlib.Core.Bool.{true};
@@ -10,88 +10,25 @@ ghost use Rattle.raster.specs.Admitted.{admittedOf, triangleAt};
 ghost use Rattle.raster.specs.Area.{Sized};
 ghost use Rattle.raster.specs.Emitted.{triangleEmits, threeEmits};
 ghost use Rattle.raster.specs.Parts.{from};
-ghost use Rattle.draw.specs.Steps.{Drew};
+ghost use Rattle.paint.specs.Steps.{Drew};
 ghost use Rattle.frame.specs.Frame.{frameOf};
-ghost use Rattle.draw.specs.Parts.{Room, Placed, trianglePixel, triangleRow, trianglesOf};
-use crate::pixels::emit;
-use combiner::Combiner;
-use edges::Edges;
+ghost use Rattle.paint.specs.Pixel.{Room};
+ghost use Rattle.draw.specs.Parts.{Placed, triangleRow, trianglesOf};
+ghost use Rattle.paint.specs.Pen.{Ready};
 use edges::Tri;
-use mode::RenderMode;
+use paint::pen::Pen;
+use paint::rows::draw_span;
+use paint::rows::flat_row;
 use raster::Scissor;
 use raster::Three;
 use vertex::Vertex;
-
-fn draw_pixel(
-    colors: &mut [u8],
-    coverages: &mut [u8],
-    marks: &mut [u8],
-    mode: RenderMode,
-    combiner: Combiner,
-    v: [Vertex; 3],
-    edges: Edges,
-    width: u32,
-    y: u32,
-    x: u32,
-) -> u64
-    requires { ⌜ x < width ⌝ ∗ ⌜ Room width (y + 1) (frameOf (now colors) (now coverages) (now marks)) ⌝ }
-    ensures { λ r. ⌜ Drew mode combiner (length (now (marks .entry))) (trianglePixel mode combiner v width edges y x) (frameOf (now (colors .entry)) (now (coverages .entry)) (now (marks .entry))) (frameOf (now (colors .exit)) (now (coverages .exit)) (now (marks .exit))) r ⌝ }
-{
-    let fragment = raster::triangle_pixel(mode.antialias, combiner, v, edges, y, x);
-    let pixel = y * width + x;
-    emit(
-        colors,
-        coverages,
-        marks,
-        mode,
-        combiner,
-        fragment,
-        pixel as usize,
-    )
-}
-
-// The pixels of row y from start up to end.
-fn draw_span(
-    colors: &mut [u8],
-    coverages: &mut [u8],
-    marks: &mut [u8],
-    mode: RenderMode,
-    combiner: Combiner,
-    v: [Vertex; 3],
-    edges: Edges,
-    width: u32,
-    y: u32,
-    start: u32,
-    end: u32,
-) -> u64
-    requires { ⌜ end ≤ width ⌝ ∗ ⌜ Room width (y + 1) (frameOf (now colors) (now coverages) (now marks)) ⌝ }
-    ensures { λ r. ⌜ Drew mode combiner (length (now (marks .entry))) (from (trianglePixel mode combiner v width edges y) start end) (frameOf (now (colors .entry)) (now (coverages .entry)) (now (marks .entry))) (frameOf (now (colors .exit)) (now (coverages .exit)) (now (marks .exit))) r ⌝ }
-{
-    let mut n: u64 = 0;
-    for x in start..end {
-        n += draw_pixel(
-            colors,
-            coverages,
-            marks,
-            mode,
-            combiner,
-            v,
-            edges,
-            width,
-            y,
-            x,
-        );
-    }
-    n
-}
 
 // Row y from left up to right: only between its outermost edges, outside which no sample lies.
 fn draw_row(
     colors: &mut [u8],
     coverages: &mut [u8],
     marks: &mut [u8],
-    mode: RenderMode,
-    combiner: Combiner,
+    pen: Pen,
     v: [Vertex; 3],
     t: Tri,
     width: u32,
@@ -99,23 +36,41 @@ fn draw_row(
     right: u32,
     y: u32,
 ) -> u64
-    requires { ⌜ (left ≤ right) × (right ≤ width) ⌝ ∗ ⌜ TameTri t ⌝ ∗ ⌜ Room width (y + 1) (frameOf (now colors) (now coverages) (now marks)) ⌝ }
-    ensures { λ r. ⌜ Drew mode combiner (length (now (marks .entry))) (triangleRow mode combiner v width t left right y) (frameOf (now (colors .entry)) (now (coverages .entry)) (now (marks .entry))) (frameOf (now (colors .exit)) (now (coverages .exit)) (now (marks .exit))) r ⌝ }
+    requires { ⌜ (left ≤ right) × (right ≤ width) × Ready pen ⌝ ∗ ⌜ TameTri t ⌝ ∗ ⌜ Room width (y + 1) (frameOf (now colors) (now coverages) (now marks)) ⌝ }
+    ensures { λ r. ⌜ Drew (pen .mode) (pen .combiner) (length (now (marks .entry))) (triangleRow (pen .mode) (pen .combiner) v width t left right y) (frameOf (now (colors .entry)) (now (coverages .entry)) (now (marks .entry))) (frameOf (now (colors .exit)) (now (coverages .exit)) (now (marks .exit))) r ⌝ }
 {
     let edges = edges::edges_at(t, y);
     let kept = edges::bounds(edges, left, right);
+    let start = kept.start;
+    let end = kept.end;
+    let full = edges::full(edges, start, end);
+    if pen.flat {
+        return flat_row(
+            colors,
+            coverages,
+            marks,
+            pen,
+            edges,
+            full,
+            width,
+            y,
+            start,
+            end,
+        );
+    }
+    let row = vertex::row::shade_row(v, y);
     draw_span(
         colors,
         coverages,
         marks,
-        mode,
-        combiner,
-        v,
+        pen,
+        row,
         edges,
+        full,
         width,
         y,
-        kept.start,
-        kept.end,
+        start,
+        end,
     )
 }
 
@@ -123,8 +78,7 @@ fn draw_rows(
     colors: &mut [u8],
     coverages: &mut [u8],
     marks: &mut [u8],
-    mode: RenderMode,
-    combiner: Combiner,
+    pen: Pen,
     v: [Vertex; 3],
     t: Tri,
     width: u32,
@@ -133,24 +87,12 @@ fn draw_rows(
     top: u32,
     bottom: u32,
 ) -> u64
-    requires { ⌜ (left ≤ right) × (right ≤ width) ⌝ ∗ ⌜ TameTri t ⌝ ∗ ⌜ Room width bottom (frameOf (now colors) (now coverages) (now marks)) ⌝ }
-    ensures { λ r. ⌜ Drew mode combiner (length (now (marks .entry))) (from (triangleRow mode combiner v width t left right) top bottom) (frameOf (now (colors .entry)) (now (coverages .entry)) (now (marks .entry))) (frameOf (now (colors .exit)) (now (coverages .exit)) (now (marks .exit))) r ⌝ }
+    requires { ⌜ (left ≤ right) × (right ≤ width) × Ready pen ⌝ ∗ ⌜ TameTri t ⌝ ∗ ⌜ Room width bottom (frameOf (now colors) (now coverages) (now marks)) ⌝ }
+    ensures { λ r. ⌜ Drew (pen .mode) (pen .combiner) (length (now (marks .entry))) (from (triangleRow (pen .mode) (pen .combiner) v width t left right) top bottom) (frameOf (now (colors .entry)) (now (coverages .entry)) (now (marks .entry))) (frameOf (now (colors .exit)) (now (coverages .exit)) (now (marks .exit))) r ⌝ }
 {
     let mut n: u64 = 0;
     for y in top..bottom {
-        n += draw_row(
-            colors,
-            coverages,
-            marks,
-            mode,
-            combiner,
-            v,
-            t,
-            width,
-            left,
-            right,
-            y,
-        );
+        n += draw_row(colors, coverages, marks, pen, v, t, width, left, right, y);
     }
     n
 }
@@ -160,8 +102,7 @@ fn draw_triangle(
     colors: &mut [u8],
     coverages: &mut [u8],
     marks: &mut [u8],
-    mode: RenderMode,
-    combiner: Combiner,
+    pen: Pen,
     cull: bool,
     scissor: Scissor,
     width: u32,
@@ -170,8 +111,8 @@ fn draw_triangle(
     b: Vertex,
     c: Vertex,
 ) -> u64
-    requires { ⌜ Placed a b c ⌝ ∗ ⌜ Sized scissor width height ⌝ ∗ ⌜ Room width height (frameOf (now colors) (now coverages) (now marks)) ⌝ }
-    ensures { λ r. ⌜ Drew mode combiner (length (now (marks .entry))) (triangleEmits mode combiner cull scissor width height a b c) (frameOf (now (colors .entry)) (now (coverages .entry)) (now (marks .entry))) (frameOf (now (colors .exit)) (now (coverages .exit)) (now (marks .exit))) r ⌝ }
+    requires { ⌜ Placed a b c × Ready pen ⌝ ∗ ⌜ Sized scissor width height ⌝ ∗ ⌜ Room width height (frameOf (now colors) (now coverages) (now marks)) ⌝ }
+    ensures { λ r. ⌜ Drew (pen .mode) (pen .combiner) (length (now (marks .entry))) (triangleEmits (pen .mode) (pen .combiner) cull scissor width height a b c) (frameOf (now (colors .entry)) (now (coverages .entry)) (now (marks .entry))) (frameOf (now (colors .exit)) (now (coverages .exit)) (now (marks .exit))) r ⌝ }
 {
     if vertex::culled(cull, a, b, c) {
         return 0;
@@ -188,8 +129,7 @@ fn draw_triangle(
         colors,
         coverages,
         marks,
-        mode,
-        combiner,
+        pen,
         v,
         t,
         width,
@@ -205,8 +145,7 @@ fn draw_indexed(
     colors: &mut [u8],
     coverages: &mut [u8],
     marks: &mut [u8],
-    mode: RenderMode,
-    combiner: Combiner,
+    pen: Pen,
     cull: bool,
     scissor: Scissor,
     width: u32,
@@ -216,8 +155,8 @@ fn draw_indexed(
     indices: &[u32],
     i: usize,
 ) -> u64
-    requires { ⌜ (i < length (now indices) / 3) ⌝ ∗ ⌜ admittedOf combiner Triangles (now vertices) (now present) (now indices) ≡ true ⌝ ∗ ⌜ Sized scissor width height ⌝ ∗ ⌜ Room width height (frameOf (now colors) (now coverages) (now marks)) ⌝ }
-    ensures { λ r. ⌜ Drew mode combiner (length (now (marks .entry))) (threeEmits mode combiner cull scissor width height (triangleAt (now (vertices .entry)) (now (present .entry)) (now (indices .entry)) i)) (frameOf (now (colors .entry)) (now (coverages .entry)) (now (marks .entry))) (frameOf (now (colors .exit)) (now (coverages .exit)) (now (marks .exit))) r ⌝ }
+    requires { ⌜ (i < length (now indices) / 3) × Ready pen ⌝ ∗ ⌜ admittedOf (pen .combiner) Triangles (now vertices) (now present) (now indices) ≡ true ⌝ ∗ ⌜ Sized scissor width height ⌝ ∗ ⌜ Room width height (frameOf (now colors) (now coverages) (now marks)) ⌝ }
+    ensures { λ r. ⌜ Drew (pen .mode) (pen .combiner) (length (now (marks .entry))) (threeEmits (pen .mode) (pen .combiner) cull scissor width height (triangleAt (now (vertices .entry)) (now (present .entry)) (now (indices .entry)) i)) (frameOf (now (colors .entry)) (now (coverages .entry)) (now (marks .entry))) (frameOf (now (colors .exit)) (now (coverages .exit)) (now (marks .exit))) r ⌝ }
 {
     let Three::Vertices(a, b, c) = raster::triangle_at(vertices, present, indices, i) else {
         return 0;
@@ -226,8 +165,7 @@ fn draw_indexed(
         colors,
         coverages,
         marks,
-        mode,
-        combiner,
+        pen,
         cull,
         scissor,
         width,
@@ -242,8 +180,7 @@ pub fn draw_triangles(
     colors: &mut [u8],
     coverages: &mut [u8],
     marks: &mut [u8],
-    mode: RenderMode,
-    combiner: Combiner,
+    pen: Pen,
     cull: bool,
     scissor: Scissor,
     width: u32,
@@ -252,8 +189,8 @@ pub fn draw_triangles(
     present: &[u8],
     indices: &[u32],
 ) -> u64
-    requires { ⌜ length (now indices) ≤ 12288 ⌝ ∗ ⌜ admittedOf combiner Triangles (now vertices) (now present) (now indices) ≡ true ⌝ ∗ ⌜ Sized scissor width height ⌝ ∗ ⌜ Room width height (frameOf (now colors) (now coverages) (now marks)) ⌝ }
-    ensures { λ r. ⌜ Drew mode combiner (length (now (marks .entry))) (trianglesOf mode combiner cull scissor width height (now (vertices .entry)) (now (present .entry)) (now (indices .entry))) (frameOf (now (colors .entry)) (now (coverages .entry)) (now (marks .entry))) (frameOf (now (colors .exit)) (now (coverages .exit)) (now (marks .exit))) r ⌝ }
+    requires { ⌜ (length (now indices) ≤ 12288) × Ready pen ⌝ ∗ ⌜ admittedOf (pen .combiner) Triangles (now vertices) (now present) (now indices) ≡ true ⌝ ∗ ⌜ Sized scissor width height ⌝ ∗ ⌜ Room width height (frameOf (now colors) (now coverages) (now marks)) ⌝ }
+    ensures { λ r. ⌜ Drew (pen .mode) (pen .combiner) (length (now (marks .entry))) (trianglesOf (pen .mode) (pen .combiner) cull scissor width height (now (vertices .entry)) (now (present .entry)) (now (indices .entry))) (frameOf (now (colors .entry)) (now (coverages .entry)) (now (marks .entry))) (frameOf (now (colors .exit)) (now (coverages .exit)) (now (marks .exit))) r ⌝ }
 {
     let count = indices.len() / 3;
     let mut n: u64 = 0;
@@ -262,8 +199,7 @@ pub fn draw_triangles(
             colors,
             coverages,
             marks,
-            mode,
-            combiner,
+            pen,
             cull,
             scissor,
             width,

@@ -6,3 +6,5 @@ pub mod Tame
 pub mod Ones
 pub mod Outside
 pub mod Eights
+pub mod Inside
+pub mod Lines

@@ -18,7 +18,7 @@ use Rattle.range.specs.Kept.{Kept}
 use Rattle.edges.specs.Bound.{noSample, noRow, pickZ, outerOf, outermostOf, clampOf, rangeOf}
 
 -- ---- order of signed numbers
-le-flip : (a b : ℤ) → leZ a b ≡ false → leZ b a ≡ true
+pub le-flip : (a b : ℤ) → leZ a b ≡ false → leZ b a ≡ true
 le-flip (pos a) (pos b) t = le-leb b a (omega (arith, leb-false a b t))
 le-flip (pos a) (negsuc b) t = refl
 le-flip (negsuc a) (pos b) t = cc
@@ -132,11 +132,11 @@ pub clamp-in : (z : ℤ) (lo hi : ℕ) → lo ≤ hi → (lo ≤ clampOf z lo hi
 clamp-in (pos a) lo hi h = omega arith
 clamp-in (negsuc a) lo hi h = omega arith
 
-below-clamp : (z : ℤ) (lo hi i : ℕ) → lo ≤ i → i < clampOf z lo hi → ltZ (pos i) z ≡ true
+pub below-clamp : (z : ℤ) (lo hi i : ℕ) → lo ≤ i → i < clampOf z lo hi → ltZ (pos i) z ≡ true
 below-clamp (pos a) lo hi i h k = lt-ltb i a (omega arith)
 below-clamp (negsuc a) lo hi i h k = absurd (omega arith)
 
-above-clamp : (z : ℤ) (lo hi i : ℕ) → clampOf z lo hi ≤ i → i < hi → leZ z (pos i) ≡ true
+pub above-clamp : (z : ℤ) (lo hi i : ℕ) → clampOf z lo hi ≤ i → i < hi → leZ z (pos i) ≡ true
 above-clamp (pos a) lo hi i h k = le-leb a i (omega arith)
 above-clamp (negsuc a) lo hi i h k = refl
 

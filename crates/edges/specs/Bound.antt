@@ -1,6 +1,6 @@
--- The parts of a row and of the rows that have to be looked at. The Rust looks from the leftmost edge to the rightmost, and from the top
--- corner's row to the bottom corner's. Definitions only.
-use Prim.Native.Nat.{ℕ, min, max}
+-- The parts of a row and of the rows that have to be looked at, and the part of a row that is full. The Rust looks from the leftmost edge to the
+-- rightmost, and from the top corner's row to the bottom corner's. Definitions only.
+use Prim.Native.Nat.{ℕ, _+_, _/_, min, max}
 use mathlib.Core.Path.{_≡_}
 use mathlib.Core.Bool.{Bool, true, false}
 use mathlib.Core.List.{List}
@@ -16,6 +16,10 @@ use Rattle.edges.specs.Sample.{maskOf}
 -- no sample of pixel x lies between the edges
 abbrev pub noSample : Edges → ℕ → Type 0
 noSample e x = maskOf e x ≡ 0
+
+-- all eight samples of pixel x do
+abbrev pub allSamples : Edges → ℕ → Type 0
+allSamples e x = maskOf e x ≡ 255
 
 -- no pixel of row y has a sample in the triangle
 abbrev pub noRow : Tri → ℕ → Type 0
@@ -43,3 +47,15 @@ clampOf (negsuc a) lo hi = lo
 -- the part of lo..hi that lies in from..to
 unfoldable pub rangeOf : ℤ → ℤ → ℕ → ℕ → Range
 rangeOf from to lo hi = record { start = clampOf from lo hi; end = clampOf to (clampOf from lo hi) hi }
+
+-- the smaller or the larger of the edges on rows i and j, within 0 to 8,192: the eighths of the pixels 0 to 1,023
+unfoldable pub edgeOfRows : Bool → List ℤ → ℕ → ℕ → ℕ
+edgeOfRows low e i j = clampOf (outerOf low (getD e i (pos 0)) (getD e j (pos 0))) 0 8192
+
+-- the first pixel x all of whose samples lie right of their left edges: 8 x, and 8 x + 2 on the odd rows, are the leftmost
+unfoldable pub fullFrom : List ℤ → ℕ
+fullFrom l = max (edgeOfRows false l 0 2 + 7) (edgeOfRows false l 1 3 + 5) / 8
+
+-- the first pixel x not all of whose samples lie left of their right edges: 8 x + 4, and 8 x + 6 on the odd rows, are the rightmost
+unfoldable pub fullTo : List ℤ → ℕ
+fullTo r = min (edgeOfRows true r 0 2 + 3) (edgeOfRows true r 1 3 + 1) / 8

@@ -56,3 +56,16 @@ edgesOf t y = record {
   left = map (λ s. lineOf t (y * 4 + s) .l) (0 ∷ 1 ∷ 2 ∷ 3 ∷ []);
   right = map (λ s. lineOf t (y * 4 + s) .r) (0 ∷ 1 ∷ 2 ∷ 3 ∷ []);
 }
+
+-- ---- rows in which the same two edges bound the four lines
+-- an edge on four quarter lines from n
+unfoldable pub fourOf : Edge → ℕ → List ℤ
+fourOf e n = map (λ s. crossOf e (n + s)) (0 ∷ 1 ∷ 2 ∷ 3 ∷ [])
+
+-- from the major edge to the other, or the other way round
+abbrev pub edgesBy : Bool → List ℤ → List ℤ → Edges
+edgesBy true m n = record { left = m; right = n }
+edgesBy false m n = record { left = n; right = m }
+
+unfoldable pub rowOf : Edge → Edge → Bool → ℕ → Edges
+rowOf major other rightward n = edgesBy rightward (fourOf major n) (fourOf other n)

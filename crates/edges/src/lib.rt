@@ -5,10 +5,11 @@ ghost use lib.IntN.{pos, natAbs};
 ghost use lib.Signed.{_≤ℤ_};
 ghost use Rattle.edges.specs.Limits.{Near, AllNear, Tame, TameTri};
 ghost use Rattle.edges.specs.Edge.{quantized, awayDiv, atLeastOne, slopeOf, areaOf, edgeStart, edgeFrom, edgeAt, crossOf};
-ghost use Rattle.edges.specs.Span.{triOf, spanOf, lineOf, edgesOf};
+ghost use Rattle.edges.specs.Span.{triOf, spanOf, lineOf, edgesOf, fourOf, rowOf};
 ghost use Rattle.edges.specs.Sample.{bitOf, inside, pairOf, maskOf, countOf};
-ghost use Rattle.edges.specs.Bound.{outerOf, outermostOf, clampOf, rangeOf, noSample, noRow};
+ghost use Rattle.edges.specs.Bound.{outerOf, outermostOf, clampOf, rangeOf, edgeOfRows, fullFrom, fullTo, noSample, allSamples, noRow};
 ghost use Rattle.range.specs.Kept.{Kept};
+ghost use Rattle.range.specs.Inner.{Inner};
 use range::Range;
 
 // A corner of a triangle, in quarters of a pixel.
@@ -202,8 +203,8 @@ fn line_at(t: Tri, scan: u32) -> Span
     span_at(major, lower, rightward, scan)
 }
 
-// The four quarter lines of row y.
-pub fn edges_at(t: Tri, y: u32) -> Edges
+// The four quarter lines of row y, each by itself.
+fn lines_at(t: Tri, y: u32) -> Edges
     requires { ⌜ (TameTri t) × (y < 4095) ⌝ }
     ensures { λ r. ⌜ r ≡ edgesOf t y ⌝ }
 {
@@ -223,6 +224,61 @@ pub fn edges_at(t: Tri, y: u32) -> Edges
     let left = [al, bl, cl, dl];
     let right = [ar, br, cr, dr];
     Edges { left, right }
+}
+
+// An edge on four quarter lines from n.
+fn four(e: Edge, n: u32) -> [i64; 4]
+    requires { ⌜ (Tame e) × (n < 16380) ⌝ }
+    ensures { λ r. ⌜ r ≡ fourOf e n ⌝ }
+{
+    let a = cross(e, n);
+    let b = cross(e, n + 1);
+    let c = cross(e, n + 2);
+    let d = cross(e, n + 3);
+    [a, b, c, d]
+}
+
+// What lies between two edges on four quarter lines from n.
+fn row_at(major: Edge, other: Edge, rightward: bool, n: u32) -> Edges
+    requires { ⌜ (Tame major) × (Tame other) × (n < 16380) ⌝ }
+    ensures { λ r. ⌜ r ≡ rowOf major other rightward n ⌝ }
+{
+    if rightward {
+        let left = four(major, n);
+        let right = four(other, n);
+        return Edges { left, right };
+    }
+    let left = four(other, n);
+    let right = four(major, n);
+    Edges { left, right }
+}
+
+// The four quarter lines of row y. In most rows the same two edges bound all four; a row with a corner goes line by line.
+pub fn edges_at(t: Tri, y: u32) -> Edges
+    requires { ⌜ (TameTri t) × (y < 4095) ⌝ }
+    ensures { λ r. ⌜ r ≡ edgesOf t y ⌝ }
+{
+    let n = y * 4;
+    let first = n as i64;
+    let last = (n + 3) as i64;
+    let top = t.top;
+    let mid = t.mid;
+    let end = t.end;
+    if top <= first {
+        if last < end {
+            let major = t.major;
+            let rightward = t.rightward;
+            if last < mid {
+                let upper = t.upper;
+                return row_at(major, upper, rightward, n);
+            }
+            if mid <= first {
+                let lower = t.lower;
+                return row_at(major, lower, rightward, n);
+            }
+        }
+    }
+    lines_at(t, y)
 }
 
 // Whether the sample at n, in eighths of a pixel, lies in l..r: 1 or 0.
@@ -338,4 +394,50 @@ pub fn rows(t: Tri, y0: u32, y1: u32) -> Range
     let top = t.top;
     let end = t.end;
     within(top >> 2, (end >> 2) + 1, y0, y1)
+}
+
+// The smaller of the edges on two rows if `low`, else the larger, cut to the eighths of the pixels 0..1024.
+fn edge_of_rows(e: [i64; 4], i: usize, j: usize, low: bool) -> u32
+    requires { ⌜ (i < 4) × (j < 4) ⌝ }
+    ensures { λ r. ⌜ r ≡ edgeOfRows low e i j ⌝ }
+{
+    let a = e[i];
+    let b = e[j];
+    clamp(outer(a, b, low), 0, 8192)
+}
+
+// The first pixel all of whose samples lie right of their left edges. The leftmost samples of pixel x are at 8 x, and at 8 x + 2 on the odd rows.
+fn full_from(l: [i64; 4]) -> u32
+    ensures { λ r. ⌜ r ≡ fullFrom l ⌝ }
+{
+    let a = edge_of_rows(l, 0, 2, false) + 7;
+    let b = edge_of_rows(l, 1, 3, false) + 5;
+    if a < b {
+        return b >> 3;
+    }
+    a >> 3
+}
+
+// The first pixel not all of whose samples lie left of their right edges. The rightmost are at 8 x + 4, and at 8 x + 6 on the odd rows.
+fn full_to(r: [i64; 4]) -> u32
+    ensures { λ n. ⌜ n ≡ fullTo r ⌝ }
+{
+    let a = edge_of_rows(r, 0, 2, true) + 3;
+    let b = edge_of_rows(r, 1, 3, true) + 1;
+    if a < b {
+        return a >> 3;
+    }
+    b >> 3
+}
+
+// The part of the pixels x0..x1 between the innermost edges: each has all eight samples.
+pub fn full(e: Edges, x0: u32, x1: u32) -> Range
+    requires { ⌜ (x0 ≤ x1) × (x1 ≤ 1024) ⌝ }
+    ensures { λ r. ⌜ Inner (allSamples e) x0 x1 r ⌝ }
+{
+    let left = e.left;
+    let right = e.right;
+    let from = full_from(left);
+    let to = full_to(right);
+    within(from as i64, to as i64, x0, x1)
 }

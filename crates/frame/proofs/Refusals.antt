@@ -1,7 +1,7 @@
--- Laws of the checks of a frame: the answer of each function from the test that decides it, and of the loop over marks, whose invariant says that the rest
+-- Laws of the checks of a frame: the answer of each function from the test that decides it, and of the loops, whose invariant says that the rest
 -- decides. Assumes nothing.
 use mathlib.Core.Path.{_≡_, refl, sym, ap, _∙_}
-use mathlib.Core.Bool.{Bool, true, false, _&&_}
+use mathlib.Core.Bool.{Bool, true, false, not, _&&_, _||_}
 use mathlib.Core.List.{List, [], _∷_}
 use Prim.Native.Nat.{ℕ, _+_, _*_, _≤_, _<_}
 use native.Mathlib.Numerals.{add-one}
@@ -10,12 +10,13 @@ use borrow.Author.Tests.{leb-true, eqb-true}
 use lib.Dec.{leb, eqb}
 use lib.ListN.{length, getD, drop, drop-of-length-le}
 use lib.Seq.{drop-cons}
+use Rattle.cell.specs.Marks.{coverageMarked}
 use Rattle.frame.specs.Frame.{Frame}
-use Rattle.frame.specs.Checks.{sizeOk, sizesOk, lengthsOk, markOk, marksOk, frameRefusal}
+use Rattle.frame.specs.Checks.{sizeOk, sizesOk, lengthsOk, markOk, marksOk, every, atMost, coverageUnmarked, frameRefusal}
 use Rattle.frame.proofs.Fits.{both-left, both-right, pixels-le}
 use Rattle.frame.proofs.Tests.{stops, goes-on}
 
--- ---- the loop over marks
+-- ---- the loop over pixels
 marks-none : (cs : List ℕ) → marksOk cs [] ≡ true
 unfolding marksOk
 marks-none [] = refl
@@ -34,6 +35,63 @@ module _ (cs ms : List ℕ) (e : length cs ≡ length ms) {i : ℕ} (inv : marks
 
 pub marks-done : (cs ms : List ℕ) {i : ℕ} → marksOk (drop i cs) (drop i ms) ≡ marksOk cs ms → length ms ≤ i → true ≡ marksOk cs ms
 marks-done cs ms {i} inv h = sym (marks-none (drop i cs)) ∙ ap (marksOk (drop i cs)) (sym (drop-of-length-le ms h)) ∙ inv
+
+-- ---- a loop over one list: what was found and the rest decide
+module _ (test : ℕ → Bool) (l : List ℕ) (ok : Bool) {i : ℕ} (inv : (ok && every test (drop i l)) ≡ every test l) where
+  pub every-next : (good : Bool) → good ≡ test (getD l i 0) → i < length l → ((ok && good) && every test (drop (i + 1) l)) ≡ every test l
+  unfolding every
+  every-next good g h =
+      let m : (ok && (test (getD l i 0) && every test (drop (i + 1) l))) ≡ every test l = rw add-one (rw (drop-cons l i 0) at inv) in
+      (λ j. (ok && g j) && every test (drop (i + 1) l)) ∙ together ok _ _ ∙ m
+    where
+      together : (a b c : Bool) → ((a && b) && c) ≡ (a && (b && c))
+      together true b c = refl
+      together false b c = refl
+
+  pub every-done : length l ≤ i → ok ≡ every test l
+  unfolding every
+  every-done h = sym (alone ok) ∙ ap (λ (k : List ℕ). ok && every test k) (sym (drop-of-length-le l h)) ∙ inv
+    where
+      alone : (a : Bool) → (a && true) ≡ a
+      alone true = refl
+      alone false = refl
+
+-- ---- what the marks alone say of number 3
+pub marks-high : (cs ms : List ℕ) → length cs ≡ length ms → every (atMost 3) ms ≡ false → false ≡ marksOk cs ms
+unfolding every marksOk markOk
+marks-high [] [] e p = sym p
+marks-high [] (m ∷ ms) e p = absurd (omega arith)
+marks-high (c ∷ cs) [] e p = absurd (omega arith)
+marks-high (c ∷ cs) (m ∷ ms) e p = go (leb m 3) (not (coverageMarked m) || leb c 7) (every (atMost 3) ms) (marksOk cs ms) (marks-high cs ms (omega arith)) p
+  where
+    go : (a x r s : Bool) → (r ≡ false → false ≡ s) → (a && r) ≡ false → false ≡ ((a && x) && s)
+    go false x r s h q = refl
+    go true false r s h q = refl
+    go true true r s h q = h q
+
+pub marks-unmarked : (cs ms : List ℕ) → every (atMost 3) ms ≡ true → every coverageUnmarked ms ≡ true → true ≡ marksOk cs ms
+unfolding every marksOk markOk
+marks-unmarked [] ms p q = refl
+marks-unmarked (c ∷ cs) [] p q = refl
+marks-unmarked (c ∷ cs) (m ∷ ms) p q =
+    let a = leb m 3 in
+    let b = coverageUnmarked m in
+    let r = every (atMost 3) ms in
+    let s = every coverageUnmarked ms in
+    λ i. (sym (both-left a r p) i && (sym (both-left b s q) i || leb c 7)) && marks-unmarked cs ms (both-right a r p) (both-right b s q) i
+
+pub marks-marked :
+    (cs ms : List ℕ) → length cs ≡ length ms → every (atMost 3) ms ≡ true → every coverageMarked ms ≡ true → every (atMost 7) cs ≡ marksOk cs ms
+unfolding every marksOk markOk
+marks-marked [] [] e p q = refl
+marks-marked [] (m ∷ ms) e p q = absurd (omega arith)
+marks-marked (c ∷ cs) [] e p q = absurd (omega arith)
+marks-marked (c ∷ cs) (m ∷ ms) e p q =
+    let a = leb m 3 in
+    let b = coverageMarked m in
+    let r = every (atMost 3) ms in
+    let s = every coverageMarked ms in
+    λ i. (sym (both-left a r p) i && (not (sym (both-left b s q) i) || leb c 7)) && marks-marked cs ms (omega arith) (both-right a r p) (both-right b s q) i
 
 -- ---- numbers 1 to 3
 size-le : (n : ℕ) → sizeOk n ≡ true → n ≤ 1024

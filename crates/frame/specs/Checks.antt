@@ -27,6 +27,17 @@ marksOk [] marks = true
 marksOk (c ∷ cs) [] = true
 marksOk (c ∷ cs) (m ∷ ms) = markOk m c && marksOk cs ms
 
+-- what can be asked of marks alone or of coverages alone: that every number of a list passes a test
+unfoldable pub every : (ℕ → Bool) → List ℕ → Bool
+every test [] = true
+every test (n ∷ ns) = test n && every test ns
+
+abbrev pub atMost : ℕ → ℕ → Bool
+atMost most n = leb n most
+
+abbrev pub coverageUnmarked : ℕ → Bool
+coverageUnmarked mark = not (coverageMarked mark)
+
 -- the first of numbers 1 to 3 that holds
 unfoldable pub frameRefusal : Frame → ℕ → ℕ → ℕ
 frameRefusal f w h =

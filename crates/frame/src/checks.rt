@@ -4,8 +4,9 @@ ghost use mathlib.Core.Bool.{_&&_};
 ghost use Prim.Native.Nat.{_*_, _<_, _≤_};
 ghost use lib.Dec.{eqb};
 ghost use lib.ListN.{length, getD};
+ghost use Rattle.cell.specs.Marks.{coverageMarked};
 ghost use Rattle.frame.specs.Frame.{frameOf};
-ghost use Rattle.frame.specs.Checks.{sizeOk, sizesOk, markOk, marksOk, frameRefusal};
+ghost use Rattle.frame.specs.Checks.{sizeOk, sizesOk, markOk, marksOk, every, atMost, coverageUnmarked, frameRefusal};
 
 const SIZE: u32 = 1024;
 
@@ -44,7 +45,50 @@ fn lengths_ok(colors: usize, coverages: usize, marks: usize, pixels: usize) -> b
     marks == pixels
 }
 
-// An unmarked coverage is not looked at.
+// Every byte is looked at, without a branch, so that the loop has no other exit and many are taken at a time. So it is in the next two.
+fn all_at_most(bytes: &[u8], most: u8) -> bool
+    ensures { λ r. ⌜ r ≡ every (atMost most) (now (bytes .entry)) ⌝ }
+{
+    let mut ok = true;
+    let mut i = 0;
+    while i < bytes.len() {
+        let byte = bytes[i];
+        let small = byte <= most;
+        ok = ok & small;
+        i += 1;
+    }
+    ok
+}
+
+fn all_marked(marks: &[u8]) -> bool
+    ensures { λ r. ⌜ r ≡ every coverageMarked (now (marks .entry)) ⌝ }
+{
+    let mut all = true;
+    let mut i = 0;
+    while i < marks.len() {
+        let mark = marks[i];
+        let marked = cell::coverage_marked(mark);
+        all = all & marked;
+        i += 1;
+    }
+    all
+}
+
+fn none_marked(marks: &[u8]) -> bool
+    ensures { λ r. ⌜ r ≡ every coverageUnmarked (now (marks .entry)) ⌝ }
+{
+    let mut none = true;
+    let mut i = 0;
+    while i < marks.len() {
+        let mark = marks[i];
+        let marked = cell::coverage_marked(mark);
+        none = none & !marked;
+        i += 1;
+    }
+    none
+}
+
+// An unmarked coverage is not read.
 fn mark_ok(coverages: &[u8], marks: &[u8], i: usize) -> bool
     requires { ⌜ (i < length (now coverages)) × (i < length (now marks)) ⌝ }
     ensures { λ r. ⌜ r ≡ markOk (getD (now (marks .entry)) i 0) (getD (now (coverages .entry)) i 0) ⌝ }
@@ -60,7 +104,8 @@ fn mark_ok(coverages: &[u8], marks: &[u8], i: usize) -> bool
     coverage <= COVERAGE
 }
 
-fn marks_ok(coverages: &[u8], marks: &[u8]) -> bool
+// One pixel after the other: for marks of which some, not all, mark a coverage.
+fn mixed_ok(coverages: &[u8], marks: &[u8]) -> bool
     requires { ⌜ length (now coverages) ≡ length (now marks) ⌝ }
     ensures { λ r. ⌜ r ≡ marksOk (now (coverages .entry)) (now (marks .entry)) ⌝ }
 {
@@ -72,6 +117,23 @@ fn marks_ok(coverages: &[u8], marks: &[u8]) -> bool
         i += 1;
     }
     true
+}
+
+// The marks first, alone: they say whether no coverage may be read, every one, or only some.
+fn marks_ok(coverages: &[u8], marks: &[u8]) -> bool
+    requires { ⌜ length (now coverages) ≡ length (now marks) ⌝ }
+    ensures { λ r. ⌜ r ≡ marksOk (now (coverages .entry)) (now (marks .entry)) ⌝ }
+{
+    if !all_at_most(marks, MARK) {
+        return false;
+    }
+    if none_marked(marks) {
+        return true;
+    }
+    if all_marked(marks) {
+        return all_at_most(coverages, COVERAGE);
+    }
+    mixed_ok(coverages, marks)
 }
 
 // The first of numbers 1 to 3 that holds, or 0.

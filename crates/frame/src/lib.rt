@@ -43,7 +43,7 @@ pub fn known_cell(colors: &[u8], coverages: &[u8], marks: &[u8], pixel: usize) -
 }
 
 // Stores a byte that is known.
-fn put_byte(bytes: &mut [u8], at: usize, known: bool, byte: u8)
+pub fn put_byte(bytes: &mut [u8], at: usize, known: bool, byte: u8)
     requires { ⌜ at < length (now bytes) ⌝ }
     ensures { λ r. ⌜ now (bytes .exit) ≡ putIf known (now (bytes .entry)) at byte ⌝ }
 {

@@ -1,89 +1,160 @@
--- `quarterOf` from the two halves of `quarter`: below zero, and not. Assumes nothing.
-use mathlib.Core.Path.{_≡_, refl, sym, ap, _∙_, subst}
-use Prim.Native.Nat.{ℕ, zero, suc, _+_, _*_, _/_, _%_, _^_, _≤_, _<_, min}
-use native.Mathlib.Nat.{zero-mul, mul-right-comm, mul-lt-mul-of-pos-right, lt-of-lt-of-le, lt-of-le-of-lt, le-of-eq, mul-le-mul-right, mul-pos}
+-- `quarterOf` from the size of x, cut off at 16384 and taken four times, which is exact in f32. Assumes nothing.
+use mathlib.Core.Path.{_≡_, refl, sym, ap, _∙_}
+use Prim.Native.Nat.{ℕ, _+_, _*_, _/_, _^_, _≤_, _<_, min}
+use native.Mathlib.Nat.{zero-mul, mul-right-comm, lt-of-lt-of-le, le-trans, le-of-eq, mul-le-mul-right, le-of-mul-le-mul-right, div-lt-iff-lt-mul, div-eq-of-lt-le}
 use native.Mathlib.Omega.{arith}
-use mathlib.Core.Bool.{Bool, true, false, _&&_, true≢false, false≢true}
+use mathlib.Core.Bool.{Bool, true, false, not, cond, true≢false}
 use borrow.Author.Tests.{ltb-true, ltb-false}
-use lib.IntN.{ℤ, pos, negsuc, negℤ}
-use lib.Dec.{T, ltb, leb, eqb, ltb→lt, lit≤}
-use lib.Pow.{pow-pos}
-use lib.Ieee.{Float, nan, inf, fin, binary32, binary64, up, down, lt, neg, fits, mul}
-use lib.Ieee.Fits.{and-r, up-pos, down-pos, fits-widens}
+use lib.IntN.{ℤ, pos, negℤ}
+use lib.Dec.{T, leb, ltb, leb→le, nleb→lt, lit≤}
+use lib.Ieee.{Float, nan, inf, fin, binary32, up, down, lt, neg, fits, mul, round}
+use lib.Ieee.Fits.{cond-fits, neg-fits, down-pos}
 use lib.Ieee.Exact.{HasValue}
 use lib.Ieee.Nearest.{div-same}
+use lib.Ieee.Positive.{num, den, den-pos, value→cross}
 use Rattle.num.specs.Color.{f0}
 use Rattle.num.specs.Whole.{whole, near, quarterOf}
 use Rattle.num.proofs.Scaled.{scaled}
-use Rattle.num.proofs.Cut.{near-halves, near-none}
+use Rattle.num.proofs.Cut.{near-halves, near-none, near-all}
+use Rattle.num.proofs.Clipped.{above0, upto, top, clipped}
 
 -- 4.0
 abbrev pub f4 : Float
 f4 = fin false 1 (pos 2)
 
-below-top : (s : Bool) (m : ℕ) (e : ℤ) → T (fits binary32 (fin s m e)) → m * up e < 2 ^ 128 * down e
-unfolding fits
-below-top s zero e t = subst (λ (x : ℕ). x < 2 ^ 128 * down e) (sym (zero-mul (up e))) (mul-pos (pow-pos 128) (down-pos e))
-below-top s (suc m) e t =
-    ltb→lt (suc m * up e) (2 ^ 128 * down e) (and-r (eqb (suc m % 2) 1 && ltb (suc m) (2 ^ 24) && leb (down e) (2 ^ 149)) (ltb (suc m * up e) (2 ^ 128 * down e)) t)
+-- x without its sign, cut off, and four times that
+abbrev pub size : Float → Float
+size x = cond (lt x f0) (neg x) x
 
--- four times an `f32`, as an `f64`: exact
-fourfold : (s : Bool) (m : ℕ) (e : ℤ) → T (fits binary32 (fin s m e)) → HasValue (mul binary64 (fin s m e) f4) s (m * up e * 4) (down e)
-fourfold s m e t =
-    scaled binary64 s m e 2 (fits-widens (fin s m e) t)
-    (lt-of-lt-of-le (mul-lt-mul-of-pos-right (below-top s m e t) (pow-pos 2)) (lt-le (down e)))
-  where
-    lt-le : (d : ℕ) → 2 ^ 128 * d * 4 ≤ 2 ^ 1024 * d
-    lt-le d = subst (λ (x : ℕ). x ≤ 2 ^ 1024 * d) (mul-right-comm (2 ^ 128) 4 d) (mul-le-mul-right d (lit≤ tt))
+abbrev pub cutSize : Float → Float
+cutSize x = upto (top 14) (above0 (size x))
 
--- ---- `whole near` of a value that is a / c
+abbrev pub quarters : Float → Float
+quarters x = mul binary32 (cutSize x) f4
+
+-- ---- equal fractions have one nearest whole number
 near-same : (N D a c : ℕ) → 0 < D → 0 < c → N * c ≡ a * D → near N D ≡ near a c
 near-same N D a c P C h =
     sym (near-halves N D P)
     ∙ ap (λ (x : ℕ). (x + 1) / 2) (div-same (N * 2) D (a * 2) c P C (mul-right-comm N 2 c ∙ ap (λ (x : ℕ). x * 2) h ∙ mul-right-comm a D 2))
     ∙ near-halves a c C
 
-at-value : (cap : ℕ) (z : Float) (a c : ℕ) → 0 < c → HasValue z false a c → whole near cap z ≡ min (near a c) cap
-at-value cap nan a c C v = absurd v
-at-value cap (inf s) a c C v = absurd v
-at-value cap (fin true n d) a c C v = absurd (true≢false (v .0))
-at-value cap (fin false n d) a c C v = ap (λ (x : ℕ). min x cap) (near-same (n * up d) (down d) a c (down-pos d) C (v .1))
+-- ---- four times n / d, for n / d up to 16384
+own : (y : Float) (a c : ℕ) → HasValue y false a c → HasValue y false (num y) (den y)
+own nan a c v = v
+own (inf s) a c v = v
+own (fin s m e) a c v = (v .0, refl)
 
-turned : (z : Float) (a c : ℕ) → HasValue z true a c → HasValue (neg z) false a c
-unfolding neg
-turned nan a c v = absurd v
-turned (inf s) a c v = absurd v
-turned (fin true n d) a c v = (refl, v .1)
-turned (fin false n d) a c v = absurd (true≢false (sym (v .0)))
+abbrev Quartered : Float → ℕ → ℕ → Type 0
+Quartered y n d = HasValue y false (num y) (den y) × (num y ≤ 65536 * den y) × (near (num y) (den y) ≡ near (n * 4) d)
 
-below-none : (cap : ℕ) (z : Float) (a c : ℕ) → HasValue z true a c → whole near cap z ≡ 0
-below-none cap nan a c v = absurd v
-below-none cap (inf s) a c v = absurd v
-below-none cap (fin true n d) a c v = refl
-below-none cap (fin false n d) a c v = absurd (true≢false (sym (v .0)))
+fourfold : (z : Float) (n d : ℕ) → T (fits binary32 z) → 0 < d → n ≤ 16384 * d → HasValue z false n d → Quartered (mul binary32 z f4) n d
+fourfold nan n d t D l v = absurd v
+fourfold (inf s) n d t D l v = absurd v
+fourfold (fin true m e) n d t D l v = absurd (true≢false (v .0))
+fourfold (fin false m e) n d t D l v =
+    let N = m * up e in
+    let E = down e in
+    let P : 0 < E = down-pos e in
+    let y = mul binary32 (fin false m e) f4 in
+    let low : N ≤ 16384 * E = le-of-mul-le-mul-right (le-trans (le-of-eq (v .1)) (le-trans (mul-le-mul-right E l) (le-of-eq (mul-right-comm 16384 d E)))) D in
+    let b : N * 4 < 2 ^ 17 * E = omega arith in
+    let w : HasValue y false (N * 4) E = scaled binary32 false m e 2 t (lt-of-lt-of-le b (mul-le-mul-right E (lit≤ tt))) in
+    let c : num y * E ≡ N * 4 * den y = value→cross y (N * 4) E w in
+    let four : N * 4 ≤ 65536 * E = omega arith in (
+      own y (N * 4) E w,
+      le-of-mul-le-mul-right (le-trans (le-of-eq c) (le-trans (mul-le-mul-right (den y) four) (le-of-eq (mul-right-comm 65536 E (den y))))) P,
+      near-same (num y) (den y) (N * 4) E (den-pos y) P c
+          ∙ near-same (N * 4) E (n * 4) d P D (mul-right-comm N 4 d ∙ ap (λ (x : ℕ). x * 4) (v .1) ∙ mul-right-comm n E 4),
+    )
 
--- ---- the two halves
-pub quarter-below : (x : Float) → T (fits binary32 x) → lt x f0 ≡ true → negℤ (pos (whole near 65536 (neg (mul binary64 x f4)))) ≡ quarterOf x
+-- the cut before the product is the cut after it
+capped : (N D : ℕ) → 0 < D → near (min N (16384 * D) * 4) D ≡ min (near (N * 4) D) 65536
+capped N D P = go (leb N (16384 * D)) (leb→le N (16384 * D)) (nleb→lt N (16384 * D))
+  where
+    go : (b : Bool) → (T b → N ≤ 16384 * D) → (T (not b) → 16384 * D < N) → near (min N (16384 * D) * 4) D ≡ min (near (N * 4) D) 65536
+    go true h k =
+        let l : N ≤ 16384 * D = h tt in
+        let is : min N (16384 * D) ≡ N = omega arith in
+        let u : (N * 4 * 2 + D) / (D * 2) < 65537 = div-lt-iff-lt-mul {k = D * 2} (omega arith) .1 (omega arith) in
+        ap (λ (x : ℕ). near (x * 4) D) is ∙ omega arith
+    go false h k =
+        let l : 16384 * D < N = k tt in
+        let is : min N (16384 * D) ≡ 16384 * D = omega arith in
+        let all : 65536 ≤ near (N * 4) D = near-all 65536 (N * 4) D P (omega arith) in
+        let full : near (16384 * D * 4) D ≡ 65536 = div-eq-of-lt-le (D * 2) (omega arith) (omega arith) in
+        ap (λ (x : ℕ). near (x * 4) D) is ∙ full ∙ omega arith
+
+-- ---- x
+-- the size of `quarterOf`
+abbrev pub sizeOf : Float → ℕ
+sizeOf nan = 0
+sizeOf (inf s) = 65536
+sizeOf (fin s m e) = min (near (m * up e * 4) (down e)) 65536
+
+pub sizeOf-le : (x : Float) → sizeOf x ≤ 65536
+sizeOf-le nan = omega arith
+sizeOf-le (inf s) = omega arith
+sizeOf-le (fin s m e) = omega arith
+
+cut-size : (s : Bool) (m : ℕ) (e : ℤ) → HasValue (cutSize (fin s m e)) false (min (m * up e) (16384 * down e)) (down e)
+unfolding lt neg
+cut-size false m e = go (ltb (m * up e * 1) (0 * down e)) (ltb-true (m * up e * 1) (0 * down e))
+  where
+    go : (b : Bool) → (b ≡ true → m * up e * 1 < 0 * down e) → HasValue (upto (top 14) (above0 (cond b (fin true m e) (fin false m e)))) false (min (m * up e) (16384 * down e)) (down e)
+    go true p =
+        let no : ⊥ = omega (arith, p refl, zero-mul (down e)) in
+        absurd no
+    go false p = clipped 14 m e
+cut-size true m e = go (ltb 0 (m * up e * 1 + 0 * down e)) (ltb-false 0 (m * up e * 1 + 0 * down e))
+  where
+    go : (b : Bool) → (b ≡ false → m * up e * 1 + 0 * down e ≤ 0) → HasValue (upto (top 14) (above0 (cond b (fin false m e) (fin true m e)))) false (min (m * up e) (16384 * down e)) (down e)
+    go true p = clipped 14 m e
+    go false p =
+        let none : m * up e ≡ 0 = omega (arith, p refl) in
+        let is : min (m * up e) (16384 * down e) ≡ 0 = omega arith in
+        (refl, zero-mul (down e) ∙ sym (ap (λ (x : ℕ). x * 1) is))
+
+cut-fits : (x : Float) → T (fits binary32 x) → T (fits binary32 (cutSize x))
+cut-fits x t =
+    let a : T (fits binary32 (size x)) = cond-fits binary32 (lt x f0) (neg x) x (neg-fits binary32 x t) t in
+    let b : T (fits binary32 (above0 (size x))) = cond-fits binary32 (lt f0 (size x)) (size x) f0 a (unfold fits in tt) in
+    cond-fits binary32 (lt (above0 (size x)) (top 14)) (above0 (size x)) (top 14) b (unfold fits in tt)
+
+-- the product's nearest whole number is the size of `quarterOf`
+pub quarters-near : (x : Float) → T (fits binary32 x) → HasValue (quarters x) false (num (quarters x)) (den (quarters x)) × (num (quarters x) ≤ 65536 * den (quarters x)) × (near (num (quarters x)) (den (quarters x)) ≡ sizeOf x)
+unfolding lt neg mul round
+quarters-near nan t = ((refl, refl), omega arith, refl)
+quarters-near (inf true) t = ((refl, refl), omega arith, refl)
+quarters-near (inf false) t = ((refl, refl), omega arith, refl)
+quarters-near (fin s m e) t =
+    let D = down e in
+    let n = min (m * up e) (16384 * D) in
+    let l : n ≤ 16384 * D = omega arith in
+    let q = fourfold (cutSize (fin s m e)) n D (cut-fits (fin s m e) t) (down-pos e) l (cut-size s m e) in
+    (q .0, q .1, q .2 ∙ capped (m * up e) D (down-pos e))
+
+-- with its sign
+pub quarter-below : (x : Float) → lt x f0 ≡ true → negℤ (pos (sizeOf x)) ≡ quarterOf x
 unfolding lt
-quarter-below nan t p = absurd (true≢false (sym p))
-quarter-below (inf false) t p = absurd (true≢false (sym p))
-quarter-below (inf true) t p = unfold mul neg in refl
-quarter-below (fin false m e) t p =
+quarter-below nan p = absurd (true≢false (sym p))
+quarter-below (inf false) p = absurd (true≢false (sym p))
+quarter-below (inf true) p = refl
+quarter-below (fin false m e) p =
     let no : ⊥ = omega (arith, ltb-true (m * up e * 1) (0 * down e) p, zero-mul (down e)) in
     absurd no
-quarter-below (fin true m e) t p =
-    ap (λ (n : ℕ). negℤ (pos n)) (at-value 65536 (neg (mul binary64 (fin true m e) f4)) (m * up e * 4) (down e) (down-pos e) (turned (mul binary64 (fin true m e) f4) (m * up e * 4) (down e) (fourfold true m e t)))
+quarter-below (fin true m e) p = refl
 
-pub quarter-above : (x : Float) → T (fits binary32 x) → lt x f0 ≡ false → pos (whole near 65536 (mul binary64 x f4)) ≡ quarterOf x
+pub quarter-above : (x : Float) → lt x f0 ≡ false → pos (sizeOf x) ≡ quarterOf x
 unfolding lt
-quarter-above nan t p = unfold mul in refl
-quarter-above (inf true) t p = absurd (true≢false p)
-quarter-above (inf false) t p = unfold mul in refl
-quarter-above (fin false m e) t p = ap pos (at-value 65536 (mul binary64 (fin false m e) f4) (m * up e * 4) (down e) (down-pos e) (fourfold false m e t))
-quarter-above (fin true m e) t p =
+quarter-above nan p = refl
+quarter-above (inf true) p = absurd (true≢false p)
+quarter-above (inf false) p = refl
+quarter-above (fin false m e) p = refl
+quarter-above (fin true m e) p =
     let none : m * up e ≡ 0 = omega (arith, ltb-false 0 (m * up e * 1 + 0 * down e) p) in
     let flat : min (near (m * up e * 4) (down e)) 65536 ≡ 0 = ap (λ (x : ℕ). min (near (x * 4) (down e)) 65536) none ∙ ap (λ (x : ℕ). min x 65536) (near-none (down e) (down-pos e)) in
-    ap pos (below-none 65536 (mul binary64 (fin true m e) f4) (m * up e * 4) (down e) (fourfold true m e t)) ∙ ap (λ (n : ℕ). negℤ (pos n)) (sym flat)
+    ap pos flat ∙ ap (λ (n : ℕ). negℤ (pos n)) (sym flat)
 
 pub whole-le : (g : ℕ → ℕ → ℕ) (cap : ℕ) (y : Float) → whole g cap y ≤ cap
 whole-le g cap nan = omega arith

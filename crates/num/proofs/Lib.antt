@@ -3,3 +3,7 @@ pub mod Values
 pub mod Scaled
 pub mod Cut
 pub mod Fourfold
+pub mod Placed
+pub mod Clipped
+pub mod Bytes
+pub mod Index

@@ -1,12 +1,15 @@
 // Floats: clamping, order, finiteness, and the whole numbers that the Rust's floor, ceil, round and saturating casts give.
-// Every function is total on every bit pattern. Tests are strict (<, >), so that a NaN falls into the last arm.
+// Every public function is total on every bit pattern. Tests are strict (<, >), so that a NaN falls into the last arm.
 ghost use mathlib.Core.Path.{_≡_};
-ghost use Rattle.num.specs.Color.{clamped, channelOf, isFinite, totalLe};
+ghost use mathlib.Core.Bool.{cond, false};
+ghost use Prim.Native.Nat.{_*_, _≤_};
+ghost use lib.Ieee.{lt, neg};
+ghost use lib.Ieee.Exact.{HasValue};
+ghost use lib.Ieee.Positive.{num, den};
+ghost use Rattle.num.specs.Color.{f0, clamped, channelOf, isFinite, totalLe};
 ghost use Rattle.num.specs.Whole.{whole, near, floor, ceil, indexCap, byteOf, quarterOf};
 
 // No bound of a frame or of a scissor (at most 65,535 + 65,535) is above this: what is cut off here is cut off by them too.
-const INDEX_CAP: usize = 131072;
-
 const INDEX_LIMIT: f32 = 131072.0;
 
 // Rust's x.clamp(0.0, 1.0).
@@ -53,73 +56,77 @@ pub fn le_total(a: f32, b: f32) -> bool
     1.0 / a <= 1.0 / b
 }
 
-// The whole number nearest to y, halves up, from 0 to 65536.
-pub fn nearest(y: f64) -> u64
-    ensures { λ r. ⌜ r ≡ whole near 65536 y ⌝ }
+// v where it is above 0, and 0 for the rest, a NaN too.
+fn above_zero(v: f32) -> f32
+    ensures { λ r. ⌜ r ≡ cond (lt f0 v) v f0 ⌝ }
 {
-    if y > 0.0 {
-        if y < 65536.0 {
-            let t = std::num::truncating_f64_to_u64(y * 2.0);
-            (t + 1) / 2
-        } else {
-            65536
-        }
-    } else {
-        0
-    }
+    if v > 0.0 { v } else { 0.0 }
 }
 
-// Rust's (v.clamp(0.0, 1.0) * 255.0).round() as u8.
+// v where it is below top, and top for the rest.
+fn up_to(v: f32, top: f32) -> f32
+    ensures { λ r. ⌜ r ≡ cond (lt v top) v top ⌝ }
+{
+    if v < top { v } else { top }
+}
+
+// The whole number nearest to y, halves up. The last digit of an f64 from 2^26 up to 2^27 is 2^-26, so that its bits from
+// the 26th up show its whole part. The sum is exact from 1/8 up; below that its rounding stays below 2^26 + 1.
+fn nearest(y: f32) -> u64
+    requires { ⌜ HasValue y false (num y) (den y) ⌝ ∗ ⌜ num y ≤ 131072 * den y ⌝ }
+    ensures { λ r. ⌜ r ≡ near (num y) (den y) ⌝ }
+{
+    let w = (y as f64) + 67108864.5;
+    (f64::to_bits(w) >> 26) & 0x3ff_ffff
+}
+
+// Rust's (v.clamp(0.0, 1.0) * 255.0).round() as u8. A NaN and -0.0, which clamp keeps, are cut off to 0.0 here; their byte is 0 either way.
 pub fn byte_of(v: f32) -> u8
     ensures { λ r. ⌜ r ≡ byteOf v ⌝ }
 {
-    let n = nearest(std::num::f32_to_f64_with_nan(clamp01(v) * 255.0));
-    if n < 255 { n as u8 } else { 255 }
+    nearest(up_to(above_zero(v), 1.0) * 255.0) as u8
 }
 
-// Rust's (f64::from(x) * 4.0).round() as i64: the product is exact in f64.
+// Rust's x.abs(), but for the sign of a zero.
+fn magnitude(x: f32) -> f32
+    ensures { λ r. ⌜ r ≡ cond (lt x f0) (neg x) x ⌝ }
+{
+    if x < 0.0 { -x } else { x }
+}
+
+// Rust's (f64::from(x) * 4.0).round() as i64: below 16384 the product is exact in f32, too.
 pub fn quarter(x: f32) -> i64
     ensures { λ r. ⌜ r ≡ quarterOf x ⌝ }
 {
-    let z = std::num::f32_to_f64_with_nan(x) * 4.0;
-    if x < 0.0 {
-        0 - (nearest(-z) as i64)
-    } else {
-        nearest(z) as i64
-    }
+    let n = nearest(up_to(above_zero(magnitude(x)), 16384.0) * 4.0) as i64;
+    if x < 0.0 { 0 - n } else { n }
+}
+
+// The whole part of y, as `nearest` finds it.
+fn whole_part(y: f32) -> u64
+    requires { ⌜ HasValue y false (num y) (den y) ⌝ ∗ ⌜ num y ≤ 131072 * den y ⌝ }
+    ensures { λ r. ⌜ r ≡ floor (num y) (den y) ⌝ }
+{
+    let w = (y as f64) + 67108864.0;
+    (f64::to_bits(w) >> 26) & 0x3ff_ffff
 }
 
 // Rust's x.floor().max(0.0) as usize.
 pub fn floor_index(x: f32) -> usize
     ensures { λ r. ⌜ r ≡ whole floor indexCap x ⌝ }
 {
-    if x > 0.0 {
-        if x < INDEX_LIMIT {
-            std::num::truncating_f32_to_u64(x) as usize
-        } else {
-            INDEX_CAP
-        }
-    } else {
-        0
-    }
+    whole_part(up_to(above_zero(x), INDEX_LIMIT)) as usize
 }
 
 // Rust's x.ceil().max(0.0) as usize.
 pub fn ceil_index(x: f32) -> usize
     ensures { λ r. ⌜ r ≡ whole ceil indexCap x ⌝ }
 {
-    if x > 0.0 {
-        if x < INDEX_LIMIT {
-            let t = std::num::truncating_f32_to_u64(x);
-            if (t as f32) < x {
-                (t + 1) as usize
-            } else {
-                t as usize
-            }
-        } else {
-            INDEX_CAP
-        }
+    let y = up_to(above_zero(x), INDEX_LIMIT);
+    let t = whole_part(y);
+    if (t as f32) < y {
+        (t + 1) as usize
     } else {
-        0
+        t as usize
     }
 }

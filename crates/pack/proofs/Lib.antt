@@ -4,3 +4,4 @@ pub mod Word
 pub mod Ranges
 pub mod Units
 pub mod Encoded
+pub mod Squares

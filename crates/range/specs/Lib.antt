@@ -1,2 +1,3 @@
--- What a range keeps of the pixels or rows that it is a part of.
+-- What a range keeps of the pixels or rows that it is a part of, and what all of it has.
 pub mod Kept
+pub mod Inner

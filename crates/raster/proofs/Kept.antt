@@ -1,14 +1,19 @@
 -- The rows and pixels that a kept range leaves out emit nothing, so those that it keeps are all: a pixel with no sample is empty. Assumes nothing.
-use mathlib.Core.Path.{_≡_}
+use mathlib.Core.Path.{_≡_, sym, _∙_}
 use mathlib.Core.Bool.{Bool, cond}
 use mathlib.Core.List.{List, []}
 use Prim.Native.Nat.{ℕ, _+_, _*_}
 use lib.Ieee.{Float}
 use Rattle.combiner.specs.declared.Combiner.{Combiner}
 use Rattle.combiner.specs.declared.Color.{Color}
+use Rattle.combiner.specs.declared.mixer.Mixer.{Mixer}
 use Rattle.combiner.specs.Combine.{colorOf, fullShade}
+use Rattle.combiner.specs.Mixer.{colorValue, mixedBy}
+use Rattle.mode.specs.declared.Rgba.{Rgba}
 use Rattle.vertex.specs.declared.Vertex.{Vertex}
 use Rattle.vertex.specs.Shade.{shadeOf}
+use Rattle.vertex.specs.Row.{rowOf, shadeOn}
+use Rattle.vertex.proofs.Rows.{row-shade}
 use Rattle.range.specs.declared.Range.{Range}
 use Rattle.range.specs.Kept.{Kept}
 use Rattle.edges.specs.declared.Edges.{Edges}
@@ -21,7 +26,7 @@ use Rattle.rectangle.specs.Rectangle.{rectMask}
 use Rattle.rectangle.specs.Window.{EmptyColumn, EmptyRow}
 use Rattle.raster.specs.declared.Fragment.the-variants.{Empty}
 use Rattle.raster.specs.Parts.{from}
-use Rattle.raster.specs.Emitted.{Emit, shown, covered, emits, triangleFragment, rectangleFragment}
+use Rattle.raster.specs.Emitted.{Emit, shown, covered, emits, mixedFragment, triangleFragment, rectangleFragment}
 use Rattle.raster.proofs.Parts.{from-empty, window}
 
 -- the parts that a kept range leaves out are empty
@@ -75,3 +80,12 @@ module _ (antialias : Bool) (c : Color) (s : Sides) where
   rect-rows-kept w l r =
       kept-all (rectangleRow antialias c s w l r) (EmptyRow s)
       (λ y z. from-empty (rectanglePixel antialias c s w y) l r (λ x p q. rect-empty y x (y * w + x) (z x)))
+
+-- ---- a triangle's row by its shades, with a combiner resolved for the draw
+pub row-shaded :
+    (antialias : Bool) (c : Combiner) (m : Mixer) (o : List Vertex) (e : Edges) (y x : ℕ) → ((s : Rgba) → colorOf c s ≡ colorValue (mixedBy m s))
+    → mixedFragment antialias m (maskOf e x) (shadeOn (rowOf o y) x) ≡ triangleFragment antialias c o e y x
+unfolding mixedFragment triangleFragment
+row-shaded antialias c m o e y x h =
+    let k = sym (h (shadeOn (rowOf o y) x)) ∙ (λ i. colorOf c (row-shade o x y i)) in
+    λ i. cond (shown antialias (maskOf e x)) (covered (maskOf e x) (k i) (row-shade o x y i .a)) Empty

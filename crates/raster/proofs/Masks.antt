@@ -21,7 +21,7 @@ use Rattle.rectangle.specs.declared.Sides.{Sides}
 use Rattle.rectangle.specs.Rectangle.{rectMask}
 use Rattle.rectangle.proofs.Samples as samples
 use Rattle.raster.specs.declared.Fragment.the-variants.{Empty, Covered}
-use Rattle.raster.specs.Emitted.{shown, covered, triangleFragment, rectangleFragment}
+use Rattle.raster.specs.Emitted.{shown, covered, triangleFragment, rectangleFragment, coloredFragment}
 
 module _ {m : ℕ} {r g b a s : Float} where
   never : Empty ≡ Covered m r g b a s → ⊥
@@ -54,3 +54,8 @@ module _ {m : ℕ} {r g b a s : Float} where
 
   pub rectangle-count : (antialias : Bool) (k : Color) (sides : Sides) (y x : ℕ) → rectangleFragment antialias k sides y x ≡ Covered m r g b a s → (1 ≤ countOf m) × (countOf m ≤ 8)
   rectangle-count antialias k sides y x h = let p = rectangle-mask antialias k sides y x h in ones.count-range m (p .0) (p .1)
+
+  -- a rectangle's pixel by its samples
+  pub colored-count : (antialias : Bool) (k : Color) (n : ℕ) → n < 256 → coloredFragment antialias k n ≡ Covered m r g b a s → (1 ≤ countOf m) × (countOf m ≤ 8)
+  unfolding coloredFragment
+  colored-count antialias k n l h = let p = sampled antialias n k (fullShade .a) l h in ones.count-range m (p .0) (p .1)

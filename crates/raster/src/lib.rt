@@ -10,7 +10,7 @@ ghost use Rattle.vertex.specs.Range.{inRange, finiteColor};
 ghost use Rattle.combiner.specs.Combine.{colorOf};
 ghost use Rattle.raster.specs.Area.{Sized, areaOf};
 ghost use Rattle.raster.specs.Admitted.{lookedUp, triangleAt, colourOf, isShade, usesShade, any, alphaDiffers, alphaCheck, checkOf, failing, admittedOf};
-ghost use Rattle.raster.specs.Emitted.{shown, covered, cornerOf, triangleFragment, rectangleFragment};
+ghost use Rattle.raster.specs.Emitted.{shown, covered, cornerOf, triangleFragment, coloredFragment, rectangleFragment};
 use combiner::Color;
 use combiner::Combiner;
 use edges::Corner;
@@ -386,14 +386,21 @@ pub fn triangle_pixel(
     with_color(mask, combiner.color(shade), shade.a)
 }
 
-// Pixel (x, y) of a rectangle, whose colour is combined once.
+// A pixel of a rectangle with these samples. Its colour is combined once, with the shade 1.0.
+pub fn colored_pixel(antialias: bool, color: Color, mask: u8) -> Fragment
+    ensures { λ r. ⌜ r ≡ coloredFragment antialias color mask ⌝ }
+{
+    if !is_shown(antialias, mask) {
+        return Fragment::Empty;
+    }
+    with_color(mask, color, 1.0)
+}
+
+// Pixel (x, y) of a rectangle.
 pub fn rectangle_pixel(antialias: bool, color: Color, sides: Sides, y: u32, x: u32) -> Fragment
     requires { ⌜ (x < 1024) × (y < 1024) ⌝ }
     ensures { λ r. ⌜ r ≡ rectangleFragment antialias color sides y x ⌝ }
 {
     let mask = sides.mask(x, y);
-    if !is_shown(antialias, mask) {
-        return Fragment::Empty;
-    }
-    with_color(mask, color, 1.0)
+    colored_pixel(antialias, color, mask)
 }

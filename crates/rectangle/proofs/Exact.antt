@@ -1,4 +1,4 @@
--- Where a sample lies, as the code works it out: whole numbers, quarters and halves are added with no rounding, since a small
+-- Where a quarter of a pixel lies, as the code works it out: whole numbers and quarters are added with no rounding, since a small
 -- count of quarters has few binary digits. And a value that is n / 4 compares as `quarters n` does. Assumes nothing.
 use mathlib.Core.Path.{_≡_, refl, sym, ap, _∙_, subst}
 use Prim.Native.Nat.{ℕ, suc, _+_, _*_, _%_, _^_, _≤_, _<_}
@@ -13,8 +13,7 @@ use lib.Ieee.{Float, nan, inf, fin, binary32, up, down, round, sum, add, mul, lt
 use lib.Ieee.Fits.{down-pos}
 use lib.Ieee.Exact.{HasValue, round-exact}
 use lib.Ieee.Scale.{round-same}
-use Rattle.rectangle.specs.declared.Sides.{Sides}
-use Rattle.rectangle.specs.Rectangle.{quarters, sampleX, sampleY, withinOf, insideOf}
+use Rattle.rectangle.specs.Rectangle.{quarters, withinOf}
 
 -- z is n quarters
 abbrev Quarters : Float → ℕ → Type 0
@@ -124,38 +123,21 @@ le-at (fin true k d) (fin false m e) n v = λ i. some m e n (v .1) k d i || (oth
 le-at (fin false k d) (fin false m e) n v = λ i. other-lt m e n (v .1) k d i || (other-eq m e n (v .1) k d i && true)
 
 -- A sample at n quarters lies between two sides exactly if the number n / 4 does.
-pub within-at : (low high z : Float) (n : ℕ) → Quarters z n → withinOf low high z ≡ withinOf low high (quarters n)
+within-at : (low high z : Float) (n : ℕ) → Quarters z n → withinOf low high z ≡ withinOf low high (quarters n)
 within-at low high z n v = λ i. le-at low z n v i && lt-at z high n v i
 
--- ---- the code's sums
--- x + odd * 0.25 + k * 0.5 and y + sub * 0.25, each operation rounded
-abbrev pub roundedX : ℕ → ℕ → ℕ → Float
-roundedX x odd k =
-    add binary32 (add binary32 (ofInt binary32 (pos x)) (mul binary32 (ofInt binary32 (pos odd)) (fin false 1 (negsuc 1)))) (mul binary32 (ofInt binary32 (pos k)) (fin false 1 (negsuc 0)))
-
-abbrev pub roundedY : ℕ → ℕ → Float
-roundedY y sub = add binary32 (ofInt binary32 (pos y)) (mul binary32 (ofInt binary32 (pos sub)) (fin false 1 (negsuc 1)))
+-- ---- the code's sum
+-- n + q * 0.25, each operation rounded
+abbrev roundedAt : ℕ → ℕ → Float
+roundedAt n q = add binary32 (ofInt binary32 (pos n)) (mul binary32 (ofInt binary32 (pos q)) (fin false 1 (negsuc 1)))
 
 quarter-is : (n : ℕ) → n < 1024 → Quarters (mul binary32 (ofInt binary32 (pos n)) (fin false 1 (negsuc 1))) n
 quarter-is n h = part-is 1 (ofInt binary32 (pos n)) (n * 4) n (whole-is n (omega arith)) refl (omega arith)
 
-half-is : (n : ℕ) → n < 1024 → Quarters (mul binary32 (ofInt binary32 (pos n)) (fin false 1 (negsuc 0))) (n * 2)
-half-is n h = part-is 0 (ofInt binary32 (pos n)) (n * 4) (n * 2) (whole-is n (omega arith)) (sym (mul-assoc n 2 2)) (omega arith)
+sum-at : (n q : ℕ) → n < 1024 → q < 1024 → Quarters (roundedAt n q) (n * 4 + q)
+sum-at n q h l =
+    sum-is (ofInt binary32 (pos n)) (mul binary32 (ofInt binary32 (pos q)) (fin false 1 (negsuc 1))) (n * 4) q (whole-is n (omega arith)) (quarter-is q l) (omega arith)
 
-y-is : (y sub : ℕ) → y < 1024 → sub < 1024 → Quarters (roundedY y sub) (y * 4 + sub)
-y-is y sub h l =
-    sum-is (ofInt binary32 (pos y)) (mul binary32 (ofInt binary32 (pos sub)) (fin false 1 (negsuc 1))) (y * 4) sub (whole-is y (omega arith)) (quarter-is sub l) (omega arith)
-
-x-is : (x odd k : ℕ) → x < 1024 → odd < 1024 → k < 1024 → Quarters (roundedX x odd k) (x * 4 + (odd + k * 2))
-x-is x odd k h l m =
-    subst (λ (n : ℕ). Quarters (roundedX x odd k) n) (add-assoc (x * 4) odd (k * 2))
-    (sum-is (roundedY x odd) (mul binary32 (ofInt binary32 (pos k)) (fin false 1 (negsuc 0))) (x * 4 + odd) (k * 2) (y-is x odd h l) (half-is k m) (omega arith))
-
--- The code's test of a sample is that of the place where the sample lies.
-pub sample-at : (s : Sides) (x y sub k odd : ℕ) → x < 1024 → y < 1024 → sub < 4 → k < 2 → odd ≡ sub % 2
-    → insideOf s (roundedX x odd k) (roundedY y sub) ≡ insideOf s (sampleX x sub k) (sampleY y sub)
-unfolding insideOf
-sample-at s x y sub k odd hx hy hs hk e =
-    let X = within-at (s .left) (s .right) (roundedX x odd k) (x * 4 + (odd + k * 2)) (x-is x odd k hx (omega arith) (omega arith)) in
-    let Y = within-at (s .top) (s .bottom) (roundedY y sub) (y * 4 + sub) (y-is y sub hy (omega arith)) in
-    (λ i. X i && Y i) ∙ (λ i. withinOf (s .left) (s .right) (quarters (x * 4 + (e i + k * 2))) && withinOf (s .top) (s .bottom) (sampleY y sub))
+-- The code's test of a quarter is that of the place where it lies.
+pub quarter-at : (low high : Float) (n q : ℕ) → n < 1024 → q < 4 → withinOf low high (roundedAt n q) ≡ withinOf low high (quarters (n * 4 + q))
+quarter-at low high n q h l = within-at low high (roundedAt n q) (n * 4 + q) (sum-at n q h (omega arith))

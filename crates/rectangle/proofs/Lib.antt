@@ -1,4 +1,5 @@
--- What several proofs of `rectangle` share, and the law that a mask is a byte.
+-- What the proofs of `rectangle` share, and the laws that callers cite.
 pub mod Exact
 pub mod Outside
+pub mod Inside
 pub mod Samples

@@ -1,72 +1,117 @@
--- A mask's bits: each row is a pair of bits in its place, so that the rows joined by `|` are their sum, and the sum is a byte. A
--- pixel none of whose samples lies between the sides of one axis has the mask 0. Assumes nothing.
-use mathlib.Core.Path.{_≡_, sym, ap, _∙_}
-use Prim.Native.Nat.{ℕ, suc, _+_, _-_, _*_, _/_, _%_, _^_, _<_}
-use native.Mathlib.Nat.{one-mul, div-add-mod', mod-eq-of-lt, pow-succ'}
+-- A mask is the bits of its column and of its row, joined by `&`: sample by sample, a place is in the rectangle if it lies between the sides of both axes. So
+-- a mask is a byte, a full column's mask is the row's, and a pixel none of whose samples lies between the sides of one axis has the mask 0. Assumes nothing.
+use mathlib.Core.Path.{_≡_, refl, sym, ap, _∙_, subst⁻¹}
+use Prim.Native.Nat.{ℕ, _+_, _-_, _*_, _%_, _^_, _<_}
+use native.Mathlib.Nat.{mod-eq-of-lt}
 use native.Mathlib.Omega.{arith}
 use mathlib.Core.Bool.{Bool, true, false, cond, _&&_}
-use lib.Bits.{bitOr, or-shifted, or-zero-l, or-zero-r}
-use lib.Pow.{pow-lt}
+use lib.Bits.{bitAnd, and-block, and-lt, and-comm, and-mask}
+use lib.Ieee.{Float}
 use Rattle.rectangle.specs.declared.Sides.{Sides}
-use Rattle.rectangle.specs.Rectangle.{sampleX, sampleY, withinOf, insideOf, sampleBit, rowBits, rectMask}
-use Rattle.rectangle.specs.Window.{Untouched, EmptyColumn, EmptyRow}
+use Rattle.rectangle.specs.Rectangle.{quarters, sampleX, sampleY, withinOf, insideOf, sampleBit, rowBits, rectMask, quarterBit, bitsOfColumn, bitsOfRow}
+use Rattle.rectangle.specs.Window.{Untouched, EmptyColumn, EmptyRow, Filled, FullColumn}
 use Rattle.rectangle.proofs.Outside.{and-false}
 
--- ---- bits put together
--- `1 << k`
-pub one-bit : (k : ℕ) → k < 8 → (1 * 2 ^ k) % 2 ^ 8 ≡ 2 ^ k
-one-bit k h = ap (λ (x : ℕ). x % 2 ^ 8) (one-mul (2 ^ k)) ∙ mod-eq-of-lt (pow-lt h)
+-- ---- bits
+abbrev bit : Bool → ℕ
+bit t = cond t 1 0
 
--- a bit, or none, above another
-or-bits : (b c : Bool) (j k : ℕ) → k < j → bitOr (cond b (2 ^ j) 0) (cond c (2 ^ k) 0) ≡ cond b (2 ^ j) 0 + cond c (2 ^ k) 0
-or-bits true true j k h = ap (λ (x : ℕ). bitOr x (2 ^ k)) (sym (one-mul (2 ^ j))) ∙ or-shifted 1 j (2 ^ k) (pow-lt h) ∙ ap (λ (x : ℕ). x + 2 ^ k) (one-mul (2 ^ j))
-or-bits true false j k h = or-zero-r (2 ^ j) ∙ omega arith
-or-bits false c j k h = or-zero-l (cond c (2 ^ k) 0) ∙ omega arith
+bit-lt : (t : Bool) → bit t < 2
+bit-lt true = omega arith
+bit-lt false = omega arith
 
-pub row-joined : (s : Sides) (x y sub : ℕ) {a b : ℕ} → sub < 4 → a ≡ sampleBit s x y sub 0 → b ≡ sampleBit s x y sub 1 → bitOr a b ≡ rowBits s x y sub
-unfolding sampleBit rowBits
-row-joined s x y sub h p q =
-    (λ i. bitOr (p i) (q i))
-    ∙ or-bits (insideOf s (sampleX x sub 0) (sampleY y sub)) (insideOf s (sampleX x sub 1) (sampleY y sub)) (7 - sub * 2 - 0) (7 - sub * 2 - 1) (omega arith)
+weight : (t : Bool) (n : ℕ) → cond t n 0 ≡ n * bit t
+weight true n = omega arith
+weight false n = omega arith
 
--- n is two bits, those of t, with the lower one at bit k
-abbrev Pair : ℕ → ℕ → Type 0
-Pair k n = (t : ℕ) × (t < 4) × (n ≡ t * 2 ^ k)
+pub quarter-lt : (low high : Float) (n q : ℕ) → quarterBit low high n q < 2
+unfolding quarterBit
+quarter-lt low high n q = bit-lt (withinOf low high (quarters (n * 4 + q)))
 
-pair : (b c : Bool) (j k : ℕ) → j ≡ suc k → Pair k (cond b (2 ^ j) 0 + cond c (2 ^ k) 0)
-pair true true j k e = (3, omega arith, omega (arith, ap (λ (x : ℕ). 2 ^ x) e, pow-succ' 2 k))
-pair true false j k e = (2, omega arith, omega (arith, ap (λ (x : ℕ). 2 ^ x) e, pow-succ' 2 k))
-pair false true j k e = (1, omega arith, omega arith)
-pair false false j k e = (0, omega arith, omega arith)
+-- the two samples of a row, by columns u and v and row h
+pair : (u v h : Bool) → bitAnd (2 * bit u + bit v) (3 * bit h) ≡ 2 * bit (u && h) + bit (v && h)
+pair true true true = refl
+pair true true false = refl
+pair true false true = refl
+pair true false false = refl
+pair false true true = refl
+pair false true false = refl
+pair false false true = refl
+pair false false false = refl
 
-row-pair : (s : Sides) (x y sub : ℕ) → sub < 4 → Pair (7 - sub * 2 - 1) (rowBits s x y sub)
-unfolding sampleBit rowBits
-row-pair s x y sub h =
-    pair (insideOf s (sampleX x sub 0) (sampleY y sub)) (insideOf s (sampleX x sub 1) (sampleY y sub)) (7 - sub * 2 - 0) (7 - sub * 2 - 1) (omega arith)
+-- four rows
+module _ (a b c d a' b' c' d' : ℕ) (hb : b < 4) (hc : c < 4) (hd : d < 4) (hb' : b' < 4) (hc' : c' < 4) (hd' : d' < 4) where
+  fours : bitAnd (((a * 4 + b) * 4 + c) * 4 + d) (((a' * 4 + b') * 4 + c') * 4 + d') ≡ ((bitAnd a a' * 4 + bitAnd b b') * 4 + bitAnd c c') * 4 + bitAnd d d'
+  fours =
+      and-block 2 ((a * 4 + b) * 4 + c) ((a' * 4 + b') * 4 + c') d d' hd hd'
+      ∙ ap (λ (n : ℕ). n * 4 + bitAnd d d')
+      (and-block 2 (a * 4 + b) (a' * 4 + b') c c' hc hc' ∙ ap (λ (n : ℕ). n * 4 + bitAnd c c') (and-block 2 a a' b b' hb hb'))
 
--- `a | b`, for a b that is below the lowest place of a
-or-next : (k a b : ℕ) → a % 2 ^ k ≡ 0 → b < 2 ^ k → bitOr a b ≡ a + b
-or-next k a b e h =
-    let m : a ≡ a / 2 ^ k * 2 ^ k = omega (arith, div-add-mod' a (2 ^ k)) in
-    ap (λ (x : ℕ). bitOr x b) m ∙ or-shifted (a / 2 ^ k) k b h ∙ ap (λ (x : ℕ). x + b) (sym m)
+-- ---- the law
+-- columns u at the quarters, rows h
+module _ (u₀ u₁ u₂ u₃ h₀ h₁ h₂ h₃ : Bool) where
+  eight : bitAnd (17 * (8 * bit u₀ + 4 * bit u₂ + 2 * bit u₁ + bit u₃)) (3 * (64 * bit h₀ + 16 * bit h₁ + 4 * bit h₂ + bit h₃))
+      ≡ 64 * (2 * bit (u₀ && h₀) + bit (u₂ && h₀)) + 16 * (2 * bit (u₁ && h₁) + bit (u₃ && h₁)) + 4 * (2 * bit (u₀ && h₂) + bit (u₂ && h₂)) + (2 * bit (u₁ && h₃) + bit (u₃ && h₃))
+  eight =
+      let a = 2 * bit u₀ + bit u₂ in
+      let b = 2 * bit u₁ + bit u₃ in
+      let p : 17 * (8 * bit u₀ + 4 * bit u₂ + 2 * bit u₁ + bit u₃) ≡ ((a * 4 + b) * 4 + a) * 4 + b = omega arith in
+      let q : 3 * (64 * bit h₀ + 16 * bit h₁ + 4 * bit h₂ + bit h₃) ≡ ((3 * bit h₀ * 4 + 3 * bit h₁) * 4 + 3 * bit h₂) * 4 + 3 * bit h₃ = omega arith in
+      let l : (a < 4) × (b < 4) = (omega (arith, bit-lt u₀, bit-lt u₂), omega (arith, bit-lt u₁, bit-lt u₃)) in
+      (λ i. bitAnd (p i) (q i))
+      ∙ fours a b a b (3 * bit h₀) (3 * bit h₁) (3 * bit h₂) (3 * bit h₃) (l .1) (l .0) (l .1) (omega (arith, bit-lt h₁)) (omega (arith, bit-lt h₂)) (omega (arith, bit-lt h₃))
+      ∙ omega (arith, pair u₀ u₂ h₀, pair u₁ u₃ h₁, pair u₀ u₂ h₂, pair u₁ u₃ h₃)
 
 module _ (s : Sides) (x y : ℕ) where
-  -- the rows from the top, with the right samples at bits 6, 4, 2 and 0
-  rows : (Pair 6 (rowBits s x y 0) × Pair 4 (rowBits s x y 1)) × (Pair 2 (rowBits s x y 2) × Pair 0 (rowBits s x y 3))
-  rows = ((row-pair s x y 0 (omega arith), row-pair s x y 1 (omega arith)), (row-pair s x y 2 (omega arith), row-pair s x y 3 (omega arith)))
+  abbrev column : ℕ → Bool
+  column q = withinOf (s .left) (s .right) (quarters (x * 4 + q))
 
-  pub mask-joined : {a b c d : ℕ} → a ≡ rowBits s x y 0 → b ≡ rowBits s x y 1 → c ≡ rowBits s x y 2 → d ≡ rowBits s x y 3 → bitOr (bitOr (bitOr a b) c) d ≡ rectMask s x y
-  unfolding rectMask
-  mask-joined {a} {b} {c} {d} p q r t =
-      ap (λ (n : ℕ). bitOr (bitOr n c) d) (or-next 6 a b (omega (arith, rows)) (omega (arith, rows)))
-      ∙ ap (λ (n : ℕ). bitOr n d) (or-next 4 (a + b) c (omega (arith, rows)) (omega (arith, rows)))
-      ∙ or-next 2 (a + b + c) d (omega (arith, rows)) (omega (arith, rows))
-      ∙ omega arith
+  abbrev row : ℕ → Bool
+  row q = withinOf (s .top) (s .bottom) (quarters (y * 4 + q))
 
-  -- A mask is a byte.
-  pub mask-lt : rectMask s x y < 256
-  unfolding rectMask
-  mask-lt = omega (arith, rows)
+  -- The mask of a pixel is the bits of its column and those of its row.
+  pub rect-and : rectMask s x y ≡ bitAnd (bitsOfColumn s x) (bitsOfRow s y)
+  unfolding rectMask rowBits sampleBit insideOf bitsOfColumn bitsOfRow quarterBit
+  rect-and =
+      sym
+      (eight (column 0) (column 1) (column 2) (column 3) (row 0) (row 1) (row 2) (row 3)
+      ∙ omega (
+        arith,
+        weight (column 0 && row 0) 128,
+        weight (column 2 && row 0) 64,
+        weight (column 1 && row 1) 32,
+        weight (column 3 && row 1) 16,
+        weight (column 0 && row 2) 8,
+        weight (column 2 && row 2) 4,
+        weight (column 1 && row 3) 2,
+        weight (column 3 && row 3) 1,
+      ))
+
+column-lt : (s : Sides) (x : ℕ) → bitsOfColumn s x < 256
+unfolding bitsOfColumn
+column-lt s x =
+    let q = quarter-lt (s .left) (s .right) x in
+    omega (arith, q 0, q 1, q 2, q 3)
+
+row-lt : (s : Sides) (y : ℕ) → bitsOfRow s y < 256
+unfolding bitsOfRow
+row-lt s y =
+    let q = quarter-lt (s .top) (s .bottom) y in
+    omega (arith, q 0, q 1, q 2, q 3)
+
+-- A mask is a byte.
+pub mask-lt : (s : Sides) (x y : ℕ) → rectMask s x y < 256
+mask-lt s x y = subst⁻¹ (λ (n : ℕ). n < 256) (rect-and s x y) (and-lt 8 (bitsOfColumn s x) (bitsOfRow s y) (column-lt s x) (row-lt s y))
+
+-- ---- all samples of a column
+pub full-column : (s : Sides) (x : ℕ) → Filled (s .left) (s .right) x → FullColumn s x
+unfolding bitsOfColumn quarterBit
+full-column s x f = λ i. 17 * (8 * cond (f 0 (omega arith) i) 1 0 + 4 * cond (f 2 (omega arith) i) 1 0 + 2 * cond (f 1 (omega arith) i) 1 0 + cond (f 3 (omega arith) i) 1 0)
+
+-- The mask in a full column is that of the row.
+pub full-mask : (s : Sides) (x y : ℕ) → FullColumn s x → rectMask s x y ≡ bitsOfRow s y
+full-mask s x y f =
+    rect-and s x y ∙ ap (λ (n : ℕ). bitAnd n (bitsOfRow s y)) f ∙ and-comm 255 (bitsOfRow s y) ∙ and-mask (bitsOfRow s y) 8 ∙ mod-eq-of-lt (row-lt s y)
 
 -- ---- no sample
 no-mask : (s : Sides) (x y : ℕ) → ((sub k : ℕ) → sub < 4 → k < 2 → insideOf s (sampleX x sub k) (sampleY y sub) ≡ false) → rectMask s x y ≡ 0

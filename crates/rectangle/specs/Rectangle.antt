@@ -38,3 +38,21 @@ rowBits s x y sub = sampleBit s x y sub 0 + sampleBit s x y sub 1
 -- the mask of pixel (x, y): the bits of its eight samples
 unfoldable pub rectMask : Sides → ℕ → ℕ → ℕ
 rectMask s x y = rowBits s x y 0 + rowBits s x y 1 + rowBits s x y 2 + rowBits s x y 3
+
+-- ---- a mask by its two axes: a sample is hit where its column lies between the left and right sides, and its row between the top and bottom ones
+
+-- quarter q of pixel n of an axis lies between the axis's two sides: 1 or 0
+unfoldable pub quarterBit : Float → Float → ℕ → ℕ → ℕ
+quarterBit low high n q = cond (withinOf low high (quarters (n * 4 + q))) 1 0
+
+-- the bits of the samples of column x between left and right. Rows 0 and 2 have samples at quarters 0 and 2, rows 1 and 3 at quarters 1 and 3
+unfoldable pub bitsOfColumn : Sides → ℕ → ℕ
+bitsOfColumn s x =
+    let q : ℕ → ℕ = quarterBit (s .left) (s .right) x in
+    17 * (8 * q 0 + 4 * q 2 + 2 * q 1 + q 3)
+
+-- the bits of the samples of row y between top and bottom: both samples of each of its four rows
+unfoldable pub bitsOfRow : Sides → ℕ → ℕ
+bitsOfRow s y =
+    let q : ℕ → ℕ = quarterBit (s .top) (s .bottom) y in
+    3 * (64 * q 0 + 16 * q 1 + 4 * q 2 + q 3)

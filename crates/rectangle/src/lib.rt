@@ -2,9 +2,10 @@
 // touch. A side is any f32, a NaN or an infinity too.
 ghost use mathlib.Core.Path.{_≡_};
 ghost use Prim.Native.Nat.{_<_, _≤_, min, max};
-ghost use Rattle.rectangle.specs.Rectangle.{withinOf, insideOf, sampleBit, rowBits, rectMask};
-ghost use Rattle.rectangle.specs.Window.{Untouched, EmptyColumn, EmptyRow};
+ghost use Rattle.rectangle.specs.Rectangle.{withinOf, rectMask, quarterBit, bitsOfColumn, bitsOfRow};
+ghost use Rattle.rectangle.specs.Window.{Untouched, EmptyColumn, EmptyRow, Filled, FullColumn};
 ghost use Rattle.range.specs.Kept.{Kept};
+ghost use Rattle.range.specs.Inner.{Inner};
 use range::Range;
 
 pub struct Sides {
@@ -22,6 +23,15 @@ fn within(low: f32, high: f32, p: f32) -> bool
         return p < high;
     }
     false
+}
+
+// Whether quarter q of pixel n of an axis lies in low..high: 1 or 0. The sum is exact, so that p is where the quarter lies.
+fn quarter(low: f32, high: f32, n: u32, q: u32) -> u8
+    requires { ⌜ (n < 1024) × (q < 4) ⌝ }
+    ensures { λ r. ⌜ r ≡ quarterBit low high n q ⌝ }
+{
+    let p = n as f32 + q as f32 * 0.25;
+    within(low, high, p) as u8
 }
 
 // n, but at least a and at most b.
@@ -51,36 +61,52 @@ fn axis(low: f32, high: f32, a: u32, b: u32) -> Range
     Range { start, end }
 }
 
+// The part of a..b whose pixels lie whole between two sides of one axis. Pixel n does so if low ≤ n and n + 0.75 < high: that is asked of the first and
+// the last one, and holds between them.
+fn inner(low: f32, high: f32, a: u32, b: u32) -> Range
+    requires { ⌜ (a ≤ b) × (b ≤ 1024) ⌝ }
+    ensures { λ r. ⌜ Inner (Filled low high) a b r ⌝ }
+{
+    let start = clamp(num::ceil_index(low), a, b);
+    let end = clamp(num::ceil_index(high - 0.75), start, b);
+    if start < end {
+        let last = end - 1;
+        let first_in = quarter(low, high, start, 0);
+        let last_in = quarter(low, high, last, 3);
+        if first_in + last_in == 2 {
+            return Range { start, end };
+        }
+    }
+    Range { start: a, end: a }
+}
+
 impl Sides {
-    // Whether the point is in the rectangle, whose left and top sides are, and whose right and bottom ones are not.
-    fn hit(self, px: f32, py: f32) -> bool
-        ensures { λ r. ⌜ r ≡ insideOf self px py ⌝ }
+    // The samples of column x that lie between the left and right sides. Bit 7 is row 0's left one.
+    pub fn column_bits(self, x: u32) -> u8
+        requires { ⌜ x < 1024 ⌝ }
+        ensures { λ r. ⌜ r ≡ bitsOfColumn self x ⌝ }
     {
-        if within(self.left, self.right, px) {
-            return within(self.top, self.bottom, py);
-        }
-        false
+        let left = self.left;
+        let right = self.right;
+        let a = quarter(left, right, x, 0);
+        let b = quarter(left, right, x, 1);
+        let c = quarter(left, right, x, 2);
+        let d = quarter(left, right, x, 3);
+        (a * 8 + c * 4 + b * 2 + d) * 17
     }
 
-    // The bit of a row's left or right sample. Every sum here is exact, so px and py are where the sample lies.
-    fn sample(self, x: u32, y: u32, sub: u32, sample: u32) -> u8
-        requires { ⌜ (x < 1024) × (y < 1024) × (sub < 4) × (sample < 2) ⌝ }
-        ensures { λ r. ⌜ r ≡ sampleBit self x y sub sample ⌝ }
+    // The samples of row y that lie between the top and bottom sides.
+    pub fn row_bits(self, y: u32) -> u8
+        requires { ⌜ y < 1024 ⌝ }
+        ensures { λ r. ⌜ r ≡ bitsOfRow self y ⌝ }
     {
-        let px = x as f32 + (sub & 1) as f32 * 0.25 + sample as f32 * 0.5;
-        let py = y as f32 + sub as f32 * 0.25;
-        if self.hit(px, py) {
-            return 1 << (7 - sub * 2 - sample);
-        }
-        0
-    }
-
-    // The bits of the two samples of a row.
-    fn row(self, x: u32, y: u32, sub: u32) -> u8
-        requires { ⌜ (x < 1024) × (y < 1024) × (sub < 4) ⌝ }
-        ensures { λ r. ⌜ r ≡ rowBits self x y sub ⌝ }
-    {
-        self.sample(x, y, sub, 0) | self.sample(x, y, sub, 1)
+        let top = self.top;
+        let bottom = self.bottom;
+        let a = quarter(top, bottom, y, 0);
+        let b = quarter(top, bottom, y, 1);
+        let c = quarter(top, bottom, y, 2);
+        let d = quarter(top, bottom, y, 3);
+        (a * 64 + b * 16 + c * 4 + d) * 3
     }
 
     // The eight samples of pixel (x, y). Bit 7 is row 0's left one.
@@ -88,7 +114,7 @@ impl Sides {
         requires { ⌜ (x < 1024) × (y < 1024) ⌝ }
         ensures { λ r. ⌜ r ≡ rectMask self x y ⌝ }
     {
-        self.row(x, y, 0) | self.row(x, y, 1) | self.row(x, y, 2) | self.row(x, y, 3)
+        self.column_bits(x) & self.row_bits(y)
     }
 
     // The part of the columns x0..x1 that can have a sample.
@@ -105,5 +131,13 @@ impl Sides {
         ensures { λ r. ⌜ Kept (EmptyRow self) y0 y1 r ⌝ }
     {
         axis(self.top, self.bottom, y0, y1)
+    }
+
+    // The part of the columns x0..x1 that lies whole between the left and right sides.
+    pub fn full_columns(self, x0: u32, x1: u32) -> Range
+        requires { ⌜ (x0 ≤ x1) × (x1 ≤ 1024) ⌝ }
+        ensures { λ r. ⌜ Inner (FullColumn self) x0 x1 r ⌝ }
+    {
+        inner(self.left, self.right, x0, x1)
     }
 }

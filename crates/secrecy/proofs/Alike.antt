@@ -7,7 +7,7 @@ use Rattle.cell.specs.Rules.{cellStep}
 use Rattle.cell.proofs.Alike.{cell-alike}
 use Rattle.raster.specs.Emitted.{Emit}
 use Rattle.frame.specs.Frame.{Frame, cellAt}
-use Rattle.draw.specs.Steps.{sourceOf, stepFrame, drawList}
+use Rattle.paint.specs.Steps.{sourceOf, stepFrame, drawList}
 use Rattle.frame.specs.Alike.{Alike}
 use Rattle.frame.proofs.Alike.{put-alike}
 

@@ -25,7 +25,7 @@ use Rattle.cell.proofs.Alike.{same-coverage, color-after}
 use Rattle.raster.specs.Admitted.{admittedOf}
 use Rattle.raster.specs.Emitted.{Emit}
 use Rattle.frame.specs.Frame.{Frame, cellAt}
-use Rattle.draw.specs.Steps.{sourceOf, stepFrame, drawList}
+use Rattle.paint.specs.Steps.{sourceOf, stepFrame, drawList}
 use Rattle.frame.specs.Checks.{frameRefusal, orElse}
 use Rattle.draw.specs.Checks.{scissorOk, inputsOk, entryRefusal}
 use Rattle.draw.specs.Draw.{DrawArgs, Plan, emittedBy, admittedPlan, madePlan, refuseOr, planOf, answerBy, frameBy, drawAnswer, drawFrame}
@@ -36,7 +36,7 @@ use Rattle.secrecy.specs.Runs.{Call, Answer, Said, answerTo, frameAfter,
 use Rattle.frame.specs.Alike.{Alike}
 use Rattle.secrecy.proofs.Alike.{list-alike}
 use Rattle.frame.proofs.Alike.{refusal-same}
-use Rattle.draw.proofs.Fits.{step-marks}
+use Rattle.paint.proofs.Fits.{step-marks}
 use Rattle.frame.proofs.Fits.{accepted}
 use Rattle.secrecy.proofs.Inside.{Below, emitted-below}
 

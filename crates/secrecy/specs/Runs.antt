@@ -13,7 +13,7 @@ use Rattle.cell.specs.Rules.{ruleF1, ruleF2}
 use Rattle.raster.specs.Emitted.{Emit}
 use Rattle.frame.specs.Frame.{Frame, cellAt}
 use Rattle.frame.specs.Alike.{Alike}
-use Rattle.draw.specs.Steps.{sourceOf, stepFrame}
+use Rattle.paint.specs.Steps.{sourceOf, stepFrame}
 use Rattle.draw.specs.Draw.{DrawArgs, Plan, planOf, DrawAnswer, drawAnswer, drawFrame}
 use Rattle.words.specs.Read.{ReadArgs, WordAnswer, readAnswer}
 use Rattle.words.specs.Run.{RunAnswer, runAnswer}

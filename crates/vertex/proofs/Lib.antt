@@ -3,3 +3,4 @@ pub mod Ranked
 pub mod Quarters
 pub mod Ordered
 pub mod Three
+pub mod Rows

@@ -2,3 +2,4 @@
 pub mod Range
 pub mod Sorted
 pub mod Shade
+pub mod Row

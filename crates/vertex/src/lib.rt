@@ -7,6 +7,8 @@ ghost use Rattle.vertex.specs.Range.{within, inRange, finiteColor};
 ghost use Rattle.vertex.specs.Sorted.{atOrBefore, sorted};
 ghost use Rattle.vertex.specs.Shade.{edgeOf, areaOf, culledOf, shadeOf};
 
+pub mod row; // the colours of a row's pixels
+
 // A position in pixels and a colour.
 pub struct Vertex {
     pub x: f32,

@@ -1,54 +1,36 @@
--- `cell::cell_step` meets its contract: each field is what the callees answer, put together by `assembled`. Assumes nothing.
+-- `cell::cell_step` meets its contract: an opaque pixel by the law on it, and any other by `meet`. Assumes nothing.
 use borrow.Author.Needs.{needs}
-use Prim.Native.Nat.{_≤_}
-use mathlib.Core.Path.{sym, subst}
-use Rattle.blender.specs.declared.Coverage.{Coverage}
-use Rattle.cell.specs.Rules.{orZero}
-use Rattle.cell.proofs.Fields.{assembled}
+use mathlib.Core.Path.{sym, ap, _∙_}
+use Rattle.cell.specs.declared.Colors.{Colors}
+use Rattle.cell.specs.Own.{coverCell}
+use Rattle.cell.proofs.Own.{opaque-step}
 use Rattle.cell.proofs.cell_step.Statement.{statement}
 use Rattle.cell.proofs.cell_step.Tie as tie
 
-coverage-of-requires : tie.Need-coverage-of-requires
-coverage-of-requires c κs = search needs
+opaque-requires : tie.Need-opaque-requires
+opaque-requires c κs = search needs
 
-color-marked-requires : tie.Need-color-marked-requires
-color-marked-requires c κs = search needs
+own-colors-requires : tie.Need-own-colors-requires
+own-colors-requires c κs = search needs
 
-verdict-requires : tie.Need-verdict-requires
-verdict-requires c κs = search needs
-
-next-colors-requires : tie.Need-next-colors-requires
-next-colors-requires c κs = search needs
-
-next-coverage-requires : tie.Need-next-coverage-requires
-next-coverage-requires c κs =
-    let start = c .before .before .before .before in
-    (start .pre .0, subst (λ (k : Coverage). orZero k ≤ 7) (sym (c .before .before .before .coverage-of .ensures)) (start .pre .1))
-
-kept-or-known-requires : tie.Need-kept-or-known-requires
-kept-or-known-requires c κs = search needs
-
-mark-of-requires : tie.Need-mark-of-requires
-mark-of-requires c κs = search needs
+cover-requires : tie.Need-cover-requires
+cover-requires c κs = search needs
 
 returns : tie.Need-returns
 returns c =
-    assembled _ _ _ _
-    (c .before .before .before .before .before .before .coverage-of .ensures)
-    (c .before .before .before .before .before .color-marked .ensures)
-    (c .before .before .before .before .verdict .ensures)
-    (c .before .before .before .next-colors .ensures)
-    (c .before .before .next-coverage .ensures)
-    (c .before .kept-or-known .ensures)
-    (c .mark-of .ensures)
+    let t = c .before .before .before in
+    let a = t .before .before .args in
+    c .cover .ensures
+    ∙ ap (λ (o : Colors). coverCell (a .mode) (a .source .count) o (a .cell)) (c .before .own-colors .ensures)
+    ∙ opaque-step (a .mode) (a .combiner) (a .source) (a .cell) (sym (t .before .opaque .ensures) ∙ t .if1 .taken)
+
+meet-requires : tie.Need-meet-requires
+meet-requires c κs = search needs
+
+returns-2 : tie.Need-returns-2
+returns-2 c = search needs
 
 pub cell-step-spec : {M : Type 1} → statement M
-cell-step-spec = tie.close (tie.spec
-    coverage-of-requires
-    color-marked-requires
-    verdict-requires
-    next-colors-requires
-    next-coverage-requires
-    kept-or-known-requires
-    mark-of-requires
-    returns)
+cell-step-spec =
+    tie.close
+    (tie.spec opaque-requires own-colors-requires cover-requires returns meet-requires returns-2)

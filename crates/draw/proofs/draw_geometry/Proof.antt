@@ -1,13 +1,22 @@
 -- `draw_geometry` meets its contract, by what the geometry is.
-use mathlib.Core.Path.{_≡_, refl, subst}
+use mathlib.Core.Path.{_≡_, refl, sym, subst}
 use mathlib.Core.Bool.{true}
 use denote.Ref.{now}
+use Rattle.mode.specs.declared.RenderMode.{RenderMode}
+use Rattle.combiner.specs.declared.Combiner.{Combiner}
 use Rattle.raster.specs.declared.Geometry.{Geometry}
+use Rattle.raster.specs.declared.Geometry.the-variants.{Triangles}
 use Rattle.raster.specs.Admitted.{admittedOf}
+use Rattle.raster.specs.Emitted.{geometryEmits}
+use Rattle.paint.specs.Pen.{Mixed}
+use Rattle.paint.proofs.Pens.{by-pen}
 use Rattle.draw.proofs.Shapes.{covers}
 use borrow.Author.Needs.{needs}
 use Rattle.draw.proofs.draw_geometry.Statement.{statement}
 use Rattle.draw.proofs.draw_geometry.Tie as tie
+
+pen-of-requires : tie.Need-pen-of-requires
+pen-of-requires c κs = c .before .before .before .before .before .before .pre .0 .1
 
 enum-told : tie.Need-enum-told
 enum-told c = search needs
@@ -16,24 +25,29 @@ enum-known-geometry : tie.Need-enum-known-geometry
 enum-known-geometry c = search needs
 
 draw-rectangle-requires : tie.Need-draw-rectangle-requires
-draw-rectangle-requires c κs = search needs
+draw-rectangle-requires c κs =
+    let s = c .before .before .before .before .before .before .before .before .before .before .before .before .before in
+    ((s .pre .1 .1 .0, c .before .before .before .before .before .before .pen-of .ensures .1 .1), s .pre .1 .1 .1)
 
 enum-told-2 : tie.Need-enum-told-2
 enum-told-2 c = search needs
 
 draw-triangles-requires : tie.Need-draw-triangles-requires
 draw-triangles-requires c κs =
-    let s = c .before .before .before .before .before .before .before .before .before .before .before in
-    let a = s .args in (
-      s .pre .0,
+    let s = c .before .before .before .before .before .before .before .before .before .before .before .before in
+    let a = s .args in
+    let e = c .before .before .before .before .before .pen-of .ensures in
+    let k = sym (e .1 .0) in (
+      (s .pre .0 .0, record { inked = e .1 .1; mixes = subst Mixed k (s .pre .0 .1) }),
       (
-        subst (λ (g : Geometry). admittedOf (a .combiner) g (now (a .vertices)) (now (a .present)) (now (a .indices)) ≡ true) (c .before .before .before .enum-told2 .given .1) (s .pre .1 .0),
+        subst (λ (k : Combiner). admittedOf k Triangles (now (a .vertices)) (now (a .present)) (now (a .indices)) ≡ true) k
+            (subst (λ (g : Geometry). admittedOf (a .combiner) g (now (a .vertices)) (now (a .present)) (now (a .indices)) ≡ true) (c .before .before .before .enum-told2 .given .1) (s .pre .1 .0)),
         s .pre .1 .1,
       ),
     )
 
 returns : tie.Need-returns
-returns c = covers _ _ _ _ _ _ _ _ _ _ (c .enum-told .given .1) (record { ran = record { state = refl; count = refl }; fit = c .before .before .before .before .before .before .before .before .pre .1 .1 .1 .fit })
+returns c = covers _ _ _ _ _ _ _ _ _ _ (c .enum-told .given .1) (record { ran = record { state = refl; count = refl }; fit = c .before .before .before .before .before .before .before .before .before .pre .1 .1 .1 .fit })
 
 same-length : tie.Need-same-length
 same-length c = search needs
@@ -45,7 +59,11 @@ same-length-3 : tie.Need-same-length-3
 same-length-3 c = search needs
 
 returns-2 : tie.Need-returns-2
-returns-2 c = covers _ _ _ _ _ _ _ _ _ _ (c .before .before .before .before .before .before .before .before .before .before .before .geometry .given .1) (c .before .before .before .before .before .before .draw-rectangle .ensures)
+returns-2 c =
+    let a = c .before .before .before .before .before .before .before .before .before .before .before .before .before .before .before .before .before .before .before .before .args in
+    let e = c .before .before .before .before .before .before .before .before .before .before .before .before .before .pen-of .ensures in
+    by-pen (e .0) (e .1 .0) (λ (q : RenderMode) (k : Combiner). geometryEmits q k (a .cull) (a .scissor) (a .width) (a .height) (now (a .vertices)) (now (a .present)) (now (a .indices)) (a .geometry))
+    (covers _ _ _ _ _ _ _ _ _ _ (c .before .before .before .before .before .before .before .before .before .before .before .geometry .given .1) (c .before .before .before .before .before .before .draw-rectangle .ensures))
 
 same-length-4 : tie.Need-same-length-4
 same-length-4 c = search needs
@@ -57,12 +75,17 @@ same-length-6 : tie.Need-same-length-6
 same-length-6 c = search needs
 
 returns-3 : tie.Need-returns-3
-returns-3 c = covers _ _ _ _ _ _ _ _ _ _ (c .before .before .before .before .before .before .before .before .before .before .enum-told2 .given .1) (c .before .before .before .before .before .before .draw-triangles .ensures)
+returns-3 c =
+    let a = c .before .before .before .before .before .before .before .before .before .before .before .before .before .before .before .before .before .before .before .args in
+    let e = c .before .before .before .before .before .before .before .before .before .before .before .before .pen-of .ensures in
+    by-pen (e .0) (e .1 .0) (λ (q : RenderMode) (k : Combiner). geometryEmits q k (a .cull) (a .scissor) (a .width) (a .height) (now (a .vertices)) (now (a .present)) (now (a .indices)) (a .geometry))
+    (covers _ _ _ _ _ _ _ _ _ _ (c .before .before .before .before .before .before .before .before .before .before .enum-told2 .given .1) (c .before .before .before .before .before .before .draw-triangles .ensures))
 
 pub draw-geometry-spec : {M : Type 1} → statement M
 draw-geometry-spec =
     tie.close
     (tie.spec
+    pen-of-requires
     enum-told
     enum-known-geometry
     draw-rectangle-requires

@@ -1,14 +1,15 @@
--- `edges::edges_at` meets its contract: the two ends of the four spans. Assumes nothing.
-use Prim.Native.Nat.{_+_, _*_, _<_, _^_}
-use mathlib.Core.Path.{_≡_, sym, ap, _∙_}
-use mathlib.Core.List.{[], _∷_}
-use native.Mathlib.Nat.{add-zero}
-use lib.Signed.{mag}
+-- `edges::edges_at` meets its contract: a row without a corner lies between two edges; any other goes line by line. Assumes nothing.
+use Prim.Native.Nat.{_+_, _*_}
+use mathlib.Core.Path.{_≡_, sym, _∙_}
+use mathlib.Core.Bool.{Bool}
+use native.Mathlib.Omega.{arith}
+use lib.IntN.{pos}
+use lib.Signed.{ltZ, leZ}
 use mir.Syntax.{w64}
 use mir.Val.{toZ, ofZ}
-use Rattle.edges.specs.Span.{lineOf, edgesOf}
-use Rattle.edges.specs.declared.Span.{Span}
-use Rattle.edges.proofs.Held.{back}
+use Rattle.edges.specs.declared.Tri.{Tri}
+use Rattle.edges.proofs.Held.{Held, small, uns, lt-is, le-is}
+use Rattle.edges.proofs.Lines.{upper-row, lower-row}
 use borrow.Author.Needs.{needs}
 use Rattle.edges.proofs.edges_at.Statement.{statement}
 use Rattle.edges.proofs.edges_at.Tie as tie
@@ -16,61 +17,75 @@ use Rattle.edges.proofs.edges_at.Tie as tie
 mul-n : tie.Need-mul-n
 mul-n c = search needs
 
-line-at-requires : tie.Need-line-at-requires
-line-at-requires c κs = search needs
+cast-first : tie.Need-cast-first
+cast-first c = search needs
 
-add-line-at : tie.Need-add-line-at
-add-line-at c = search needs
+add-last : tie.Need-add-last
+add-last c = search needs
 
-line-at-requires-2 : tie.Need-line-at-requires-2
-line-at-requires-2 c κs = search needs
+cast-last : tie.Need-cast-last
+cast-last c = search needs
 
-add-line-at-2 : tie.Need-add-line-at-2
-add-line-at-2 c = search needs
+-- the tests, of the numbers themselves
+module _ (s : tie.Start) where
+  abbrev t : Tri
+  t = s .args .t
 
-line-at-requires-3 : tie.Need-line-at-requires-3
-line-at-requires-3 c κs = search needs
+  first : Held (s .args .y * 4) (pos (s .args .y * 4)) 16384
+  first = uns (omega arith) tt
 
-add-line-at-3 : tie.Need-add-line-at-3
-add-line-at-3 c = search needs
+  last : Held (s .args .y * 4 + 3) (pos (s .args .y * 4 + 3)) 16384
+  last = uns (omega arith) tt
 
-line-at-requires-4 : tie.Need-line-at-requires-4
-line-at-requires-4 c κs = search needs
+  top-first : {b : Bool} → leZ (toZ w64 (ofZ w64 (t .top))) (toZ w64 (s .args .y * 4)) ≡ b → leZ (t .top) (pos (s .args .y * 4)) ≡ b
+  top-first e = sym (le-is (small (t .top) (s .pre .0 .top-small) tt) first) ∙ e
 
--- the two ends of a span that fits, as the code copies them
-left : {s t : Span} → mag (s .l) < 2 ^ 63 → s ≡ t → toZ w64 (ofZ w64 (s .l)) ≡ t .l
-left {s} h e = back (s .l) h ∙ ap (λ (x : Span). x .l) e
+  last-end : {b : Bool} → ltZ (toZ w64 (s .args .y * 4 + 3)) (toZ w64 (ofZ w64 (t .end))) ≡ b → ltZ (pos (s .args .y * 4 + 3)) (t .end) ≡ b
+  last-end e = sym (lt-is last (small (t .end) (s .pre .0 .end-small) tt)) ∙ e
 
-right : {s t : Span} → mag (s .r) < 2 ^ 63 → s ≡ t → toZ w64 (ofZ w64 (s .r)) ≡ t .r
-right {s} h e = back (s .r) h ∙ ap (λ (x : Span). x .r) e
+  mid-first : {b : Bool} → leZ (toZ w64 (ofZ w64 (t .mid))) (toZ w64 (s .args .y * 4)) ≡ b → leZ (t .mid) (pos (s .args .y * 4)) ≡ b
+  mid-first e = sym (le-is (small (t .mid) (s .pre .0 .mid-small) tt) first) ∙ e
+
+  last-mid : {b : Bool} → ltZ (toZ w64 (s .args .y * 4 + 3)) (toZ w64 (ofZ w64 (t .mid))) ≡ b → ltZ (pos (s .args .y * 4 + 3)) (t .mid) ≡ b
+  last-mid e = sym (lt-is last (small (t .mid) (s .pre .0 .mid-small) tt)) ∙ e
+
+row-at-requires : tie.Need-row-at-requires
+row-at-requires c κs = search needs
 
 returns : tie.Need-returns
-unfolding edgesOf
 returns c =
-    let d₄ = c .before .before .before .before .before .before .before .before in
-    let d₃ = d₄ .before in
-    let d₂ = d₃ .before in
-    let d₁ = d₂ .before in
-    let t = d₁ .before .args .t in
-    let y = d₁ .before .args .y in
-    let e : d₁ .line-at .result ≡ lineOf t (y * 4 + 0) = d₁ .line-at .ensures ∙ ap (lineOf t) (sym (add-zero (y * 4))) in
-    λ i. record {
-      left = left (d₁ .line-at .ok .1 .1 .0 .1) e i ∷ left (d₂ .line-at2 .ok .1 .1 .0 .1) (d₂ .line-at2 .ensures) i
-          ∷ left (d₃ .line-at3 .ok .1 .1 .0 .1) (d₃ .line-at3 .ensures) i ∷ left (d₄ .line-at4 .ok .1 .1 .0 .1) (d₄ .line-at4 .ensures) i ∷ [];
-      right = right (d₁ .line-at .ok .1 .1 .1 .0 .1) e i ∷ right (d₂ .line-at2 .ok .1 .1 .1 .0 .1) (d₂ .line-at2 .ensures) i
-          ∷ right (d₃ .line-at3 .ok .1 .1 .1 .0 .1) (d₃ .line-at3 .ensures) i ∷ right (d₄ .line-at4 .ok .1 .1 .1 .0 .1) (d₄ .line-at4 .ensures) i ∷ [];
-    }
+    let m = c .before .before in
+    let d = m .before .before in
+    let s = d .before .before .before .before .before in
+    c .row-at .ensures ∙ upper-row (s .args .t) (s .args .y) (top-first s (d .before .if1 .taken)) (last-end s (d .if2 .taken)) (last-mid s (m .if3 .taken))
+
+row-at-requires-2 : tie.Need-row-at-requires-2
+row-at-requires-2 c κs = search needs
+
+returns-2 : tie.Need-returns-2
+returns-2 c =
+    let m = c .before .before in
+    let d = m .before .before .before in
+    let s = d .before .before .before .before .before in
+    c .row-at2 .ensures ∙ lower-row (s .args .t) (s .args .y) (top-first s (d .before .if1 .taken)) (last-end s (d .if2 .taken)) (mid-first s (m .if4 .taken))
+
+lines-at-requires : tie.Need-lines-at-requires
+lines-at-requires c κs = search needs
+
+returns-3 : tie.Need-returns-3
+returns-3 c = search needs
 
 pub edges-at-spec : {M : Type 1} → statement M
 edges-at-spec =
     tie.close
     (tie.spec
     mul-n
-    line-at-requires
-    add-line-at
-    line-at-requires-2
-    add-line-at-2
-    line-at-requires-3
-    add-line-at-3
-    line-at-requires-4
-    returns)
+    cast-first
+    add-last
+    cast-last
+    row-at-requires
+    returns
+    row-at-requires-2
+    returns-2
+    lines-at-requires
+    returns-3)

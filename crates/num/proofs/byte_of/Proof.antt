@@ -1,52 +1,45 @@
--- `num::byte_of` meets its contract: `nearest` of the clamped product, cut off at 255. Assumes nothing.
-use mathlib.Core.Path.{_≡_, refl, sym, ap, _∙_}
-use Prim.Native.Nat.{ℕ}
+-- `num::byte_of` meets its contract: `nearest` of the product of the float that is cut off at 0 and 1 (`byte-of`). Assumes nothing.
+use mathlib.Core.Path.{_≡_, sym, ap, _∙_, subst}
+use Prim.Native.Nat.{_*_, _≤_}
 use native.Mathlib.Omega.{arith}
 use borrow.Author.Needs.{needs}
-use lib.Dec.{lit≤}
 use lib.Ieee.{Float, ofBits, mul, binary32}
-use Rattle.num.specs.Color.{clamped}
-use Rattle.num.specs.Whole.{whole, near, f255}
-use Rattle.num.proofs.Cut.{whole-min}
+use lib.Ieee.Positive.{num, den, den-pos}
+use Rattle.num.specs.Color.{f1}
+use Rattle.num.specs.Whole.{near, f255}
+use Rattle.num.proofs.Placed.{Low}
+use Rattle.num.proofs.Clipped.{upto}
+use Rattle.num.proofs.Bytes.{scaledUp, byte-of}
 use Rattle.num.proofs.byte_of.Statement.{statement}
 use Rattle.num.proofs.byte_of.Tie as tie
 
-clamp01-requires : tie.Need-clamp01-requires
-clamp01-requires c κs = search needs
+above-zero-requires : tie.Need-above-zero-requires
+above-zero-requires c κs = search needs
 
-f32-to-f64-with-nan-requires : tie.Need-f32-to-f64-with-nan-requires
-f32-to-f64-with-nan-requires c κs = search needs
+up-to-requires : tie.Need-up-to-requires
+up-to-requires c κs = search needs
+
+-- the product, in the words of `byte-of`
+product : (c : tie.After-up-to) → mul binary32 (c .up-to .result) (ofBits binary32 0x437f_0000) ≡ scaledUp (c .before .before .args .v)
+unfolding ofBits
+product c = ap (λ (x : Float). mul binary32 x f255) (c .up-to .ensures ∙ ap (λ (x : Float). upto f1 x) (c .before .above-zero .ensures))
 
 nearest-requires : tie.Need-nearest-requires
-nearest-requires c κs = search needs
+nearest-requires c κs =
+    let v = c .before .before .args .v in
+    let y = scaledUp v in
+    let l : num y ≤ 131072 * den y = omega (arith, byte-of v .0 .1, den-pos y) in
+    subst Low (sym (product c)) (byte-of v .0 .0, l)
+
+answer : (c : tie.After-nearest) → c .nearest .result ≡ near (num (scaledUp (c .before .before .before .args .v))) (den (scaledUp (c .before .before .before .args .v)))
+answer c = c .nearest .ensures ∙ ap (λ (x : Float). near (num x) (den x)) (product (c .before))
 
 cast-result : tie.Need-cast-result
-cast-result c = search needs
-
--- what `nearest` answers, in the words of the contract
-answer : (c : tie.After-nearest) → c .nearest .result ≡ whole near 65536 (mul binary32 (clamped (c .before .before .before .args .v)) f255)
-unfolding ofBits
-answer c =
-    c .nearest .ensures
-    ∙ ap (λ (x : Float). whole near 65536 x) (c .before .f32-to-f64-with-nan .ensures ∙ ap (λ (x : Float). mul binary32 x f255) (c .before .before .clamp01 .ensures))
+cast-result c = omega (arith, answer c, byte-of (c .before .before .before .args .v) .1)
 
 returns : tie.Need-returns
-returns c =
-    let y = mul binary32 (clamped (c .before .before .before .before .args .v)) f255 in
-    omega (arith, answer (c .before), whole-min near 255 65536 y (lit≤ tt))
-
-returns-2 : tie.Need-returns-2
-returns-2 c =
-    let y = mul binary32 (clamped (c .before .before .before .before .args .v)) f255 in
-    omega (arith, answer (c .before), whole-min near 255 65536 y (lit≤ tt))
+returns c = answer c ∙ byte-of (c .before .before .before .args .v) .2
 
 pub byte-of-spec : {M : Type 1} → statement M
 byte-of-spec =
-    tie.close
-    (tie.spec
-    clamp01-requires
-    f32-to-f64-with-nan-requires
-    nearest-requires
-    cast-result
-    returns
-    returns-2)
+    tie.close (tie.spec above-zero-requires up-to-requires nearest-requires cast-result returns)

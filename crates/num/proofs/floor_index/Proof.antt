@@ -1,31 +1,34 @@
--- `num::floor_index` meets its contract: the truncating cast of a float above 0 and below the cap is its floor. Assumes nothing.
-use mathlib.Core.Path.{_≡_, refl, sym, _∙_}
-use native.Mathlib.Omega.{arith}
-use lib.Ieee.{ofBits}
+-- `num::floor_index` meets its contract: the whole part of x cut off at 0 and at the cap (`floor-index`). Assumes nothing.
+use mathlib.Core.Path.{_≡_, sym, ap, _∙_, subst}
+use borrow.Author.Needs.{needs}
+use lib.Ieee.{Float, ofBits}
+use lib.Ieee.Positive.{num, den}
 use Rattle.num.specs.Whole.{floor}
-use Rattle.num.proofs.Cut.{index, inside, whole-inside, whole-none, whole-all, floor-none, floor-all}
+use Rattle.num.proofs.Placed.{Low}
+use Rattle.num.proofs.Clipped.{upto, top}
+use Rattle.num.proofs.Index.{clip, floor-index}
 use Rattle.num.proofs.floor_index.Statement.{statement}
 use Rattle.num.proofs.floor_index.Tie as tie
 
-truncating-f32-to-u64-requires : tie.Need-truncating-f32-to-u64-requires
+above-zero-requires : tie.Need-above-zero-requires
+above-zero-requires c κs = search needs
+
+up-to-requires : tie.Need-up-to-requires
+up-to-requires c κs = search needs
+
+clip-is : (c : tie.After-up-to) → c .up-to .result ≡ clip (c .before .before .args .x)
 unfolding ofBits
-truncating-f32-to-u64-requires c κs = index (c .before .before .args .x) (c .before .if1 .taken) (c .if2 .taken) .0
+clip-is c = c .up-to .ensures ∙ ap (λ (x : Float). upto (top 17) x) (c .before .above-zero .ensures)
+
+whole-part-requires : tie.Need-whole-part-requires
+whole-part-requires c κs =
+    let i = floor-index (c .before .before .args .x) in
+    subst Low (sym (clip-is c)) (i .0, i .1)
 
 returns : tie.Need-returns
-unfolding ofBits
 returns c =
-    let at = c .before in
-    let x = at .before .before .args .x in
-    let i = index x (at .before .if1 .taken) (at .if2 .taken) in
-    omega (arith, i .1, i .2, whole-inside floor 131072 x (inside x 17 (at .before .if1 .taken) (at .if2 .taken) .0), c .truncating-f32-to-u64 .ensures)
-
-returns-2 : tie.Need-returns-2
-unfolding ofBits
-returns-2 c = whole-all floor 17 (c .before .before .args .x) (floor-all 131072) (c .before .if1 .taken) (c .if2 .left)
-
-returns-3 : tie.Need-returns-3
-unfolding ofBits
-returns-3 c = whole-none floor 131072 (c .before .args .x) floor-none (c .if1 .left)
+    c .whole-part .ensures ∙ ap (λ (z : Float). floor (num z) (den z)) (clip-is (c .before)) ∙ floor-index (c .before .before .before .args .x) .2
 
 pub floor-index-spec : {M : Type 1} → statement M
-floor-index-spec = tie.close (tie.spec truncating-f32-to-u64-requires returns returns-2 returns-3)
+floor-index-spec =
+    tie.close (tie.spec above-zero-requires up-to-requires whole-part-requires returns)

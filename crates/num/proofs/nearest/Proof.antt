@@ -1,45 +1,37 @@
--- `num::nearest` meets its contract: twice y is exact, and the cut of it, plus one, halved, is the nearest whole number (`near-halves`). Assumes nothing.
-use mathlib.Core.Path.{_≡_, refl, sym, _∙_}
-use native.Mathlib.Omega.{arith}
+-- `num::nearest` meets its contract: the sum's bits show the whole number (`near-shown`). Assumes nothing.
+use mathlib.Core.Path.{_∙_}
+use mathlib.Core.Bool.{not}
+use Prim.Native.Nat.{_/_, _^_}
 use lib.Dec.{T}
-use lib.Ieee.{ofBits, fits, binary64}
-use lib.Ieee.Positive.{num, den, den-pos}
+use lib.Bits.{and-mask}
+use lib.Ieee.{binary32, binary64, ofBits, add, fits, isNan, toBits}
+use lib.Ieee.Fits.{and-i, fits-widens}
+use lib.Ieee.Positive.{num, den}
 use denote.Floats.{passes}
 use Rattle.num.specs.Whole.{near}
-use Rattle.num.proofs.Cut.{twice, inside, whole-inside, whole-none, whole-all, near-none, near-all, near-halves}
+use Rattle.num.proofs.Placed.{Shows, near-shown, number}
 use Rattle.num.proofs.nearest.Statement.{statement}
 use Rattle.num.proofs.nearest.Tie as tie
 
-held : (c : tie.Start) → T (fits binary64 (c .args .y))
-held c = passes (fits binary64 (c .args .y)) (c .good .0 .1)
+held : (c : tie.Start) → T (fits binary32 (c .args .y))
+held c = passes (fits binary32 (c .args .y)) (c .good .0 .1)
 
-truncating-f64-to-u64-requires : tie.Need-truncating-f64-to-u64-requires
+shows : (c : tie.Start) → Shows (add binary64 (c .args .y) (ofBits binary64 0x4190_0000_0200_0000)) (near (num (c .args .y)) (den (c .args .y)))
 unfolding ofBits
-truncating-f64-to-u64-requires c κs = twice (c .before .before .args .y) (held (c .before .before)) (c .before .if1 .taken) (c .if2 .taken) .0
+shows c = near-shown (c .args .y) (held c) (c .pre)
 
-add-result : tie.Need-add-result
-unfolding ofBits
-add-result c =
-    let at = c .before in
-    let r = twice (at .before .before .args .y) (held (at .before .before)) (at .before .if1 .taken) (at .if2 .taken) in
-    omega (arith, r .1, r .2, c .truncating-f64-to-u64 .ensures)
+float-to-float-w : tie.Need-float-to-float-w
+float-to-float-w c =
+    let y = c .before .args .y in
+    and-i (fits binary64 y) (not (isNan y)) (fits-widens y (held (c .before))) (number y (num y) (den y) (c .before .pre .0))
+
+float-to-bits-result : tie.Need-float-to-bits-result
+float-to-bits-result c = shows (c .before) .0
 
 returns : tie.Need-returns
-unfolding ofBits
 returns c =
-    let at = c .before in
-    let y = at .before .before .args .y in
-    let r = twice y (held (at .before .before)) (at .before .if1 .taken) (at .if2 .taken) in
-    omega (arith, r .1, r .2, whole-inside near 65536 y (inside y 16 (at .before .if1 .taken) (at .if2 .taken) .0), near-halves (num y) (den y) (den-pos y), c .truncating-f64-to-u64 .ensures)
-
-returns-2 : tie.Need-returns-2
-unfolding ofBits
-returns-2 c = whole-all near 16 (c .before .before .args .y) (near-all 65536) (c .before .if1 .taken) (c .if2 .left)
-
-returns-3 : tie.Need-returns-3
-unfolding ofBits
-returns-3 c = whole-none near 65536 (c .before .args .y) near-none (c .if1 .left)
+    let w = add binary64 (c .before .args .y) (ofBits binary64 0x4190_0000_0200_0000) in
+    and-mask (toBits binary64 w / 2 ^ 26) 26 ∙ shows (c .before) .1
 
 pub nearest-spec : {M : Type 1} → statement M
-nearest-spec =
-    tie.close (tie.spec truncating-f64-to-u64-requires add-result returns returns-2 returns-3)
+nearest-spec = tie.close (tie.spec float-to-float-w float-to-bits-result returns)

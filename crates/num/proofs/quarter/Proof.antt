@@ -1,18 +1,20 @@
--- `num::quarter` meets its contract: four times an f32 is exact in f64, and `nearest` rounds its size, halves up, on either side of 0. Assumes nothing.
-use mathlib.Core.Path.{_≡_, refl, sym, ap, _∙_, subst}
-use Prim.Native.Nat.{ℕ, zero, suc, _≤_, _<_, _^_}
+-- `num::quarter` meets its contract: `nearest` of four times the size, which is exact, with the sign of x (`Fourfold`). Assumes nothing.
+use mathlib.Core.Path.{_≡_, sym, ap, _∙_, subst}
+use Prim.Native.Nat.{ℕ, zero, suc, _*_, _≤_}
 use native.Mathlib.Omega.{arith}
 use borrow.Author.Needs.{needs}
 use lib.IntN.{ℤ, pos, negℤ, _-ℤ_, +ℤ-idl}
-use lib.Signed.{mag}
 use lib.Dec.{T}
-use lib.Ieee.{Float, ofBits, neg, mul, fits, binary32, binary64}
+use lib.Ieee.{Float, ofBits, mul, fits, binary32}
+use lib.Ieee.Positive.{num, den}
 use mir.Syntax.{w64}
-use mir.Val.{SFits, toZ, ofZ}
+use mir.Val.{SFits, toZ}
 use mir.Facts.{toZ-pos, toZ-ofZ}
 use denote.Floats.{passes}
-use Rattle.num.specs.Whole.{whole, near}
-use Rattle.num.proofs.Fourfold.{f4, whole-le, quarter-below, quarter-above}
+use Rattle.num.specs.Whole.{near}
+use Rattle.num.proofs.Placed.{Low}
+use Rattle.num.proofs.Clipped.{upto, above0, top}
+use Rattle.num.proofs.Fourfold.{f4, quarters, quarters-near, sizeOf, sizeOf-le, quarter-below, quarter-above}
 use Rattle.num.proofs.quarter.Statement.{statement}
 use Rattle.num.proofs.quarter.Tie as tie
 
@@ -30,66 +32,73 @@ small-neg (suc n) h = record { sfits = omega arith }
 less : (n : ℕ) → n ≤ 65536 → pos 0 -ℤ toZ w64 n ≡ negℤ (pos n)
 less n h = ap (λ (z : ℤ). pos 0 -ℤ z) (toZ-pos w64 (small n h .sfits)) ∙ +ℤ-idl (negℤ (pos n))
 
-f32-to-f64-with-nan-requires : tie.Need-f32-to-f64-with-nan-requires
-f32-to-f64-with-nan-requires c κs = search needs
+magnitude-requires : tie.Need-magnitude-requires
+magnitude-requires c κs = search needs
+
+above-zero-requires : tie.Need-above-zero-requires
+above-zero-requires c κs = search needs
+
+up-to-requires : tie.Need-up-to-requires
+up-to-requires c κs = search needs
+
+-- the product, in the words of `Fourfold`
+product : (c : tie.After-up-to) → mul binary32 (c .up-to .result) (ofBits binary32 0x4080_0000) ≡ quarters (c .before .before .before .args .x)
+unfolding ofBits
+product c =
+    ap (λ (x : Float). mul binary32 x f4)
+    (c .up-to .ensures
+    ∙ ap (λ (x : Float). upto (top 14) x) (c .before .above-zero .ensures ∙ ap above0 (c .before .before .magnitude .ensures)))
 
 nearest-requires : tie.Need-nearest-requires
-nearest-requires c κs = search needs
+nearest-requires c κs =
+    let start = c .before .before .before in
+    let y = quarters (start .args .x) in
+    let q = quarters-near (start .args .x) (held start) in
+    let l : num y ≤ 131072 * den y = omega (arith, q .1) in
+    subst Low (sym (product c)) (q .0, l)
 
--- what `nearest` answers, each time
-below : (c : tie.After-nearest) → c .nearest .result ≡ whole near 65536 (neg (mul binary64 (c .before .before .before .args .x) f4))
-unfolding ofBits
-below c = c .nearest .ensures ∙ ap (λ (x : Float). whole near 65536 (neg (mul binary64 x f4))) (c .before .before .f32-to-f64-with-nan .ensures)
+answer : (c : tie.After-nearest) → c .nearest .result ≡ sizeOf (c .before .before .before .before .args .x)
+answer c =
+    let start = c .before .before .before .before in
+    c .nearest .ensures ∙ ap (λ (x : Float). near (num x) (den x)) (product (c .before)) ∙ quarters-near (start .args .x) (held start) .2
 
-above : (c : tie.After-nearest2) → c .nearest2 .result ≡ whole near 65536 (mul binary64 (c .before .before .before .args .x) f4)
-unfolding ofBits
-above c = c .nearest2 .ensures ∙ ap (λ (x : Float). whole near 65536 (mul binary64 x f4)) (c .before .before .f32-to-f64-with-nan .ensures)
+answer-small : (c : tie.After-nearest) → c .nearest .result ≤ 65536
+answer-small c = subst (λ (n : ℕ). n ≤ 65536) (sym (answer c)) (sizeOf-le (c .before .before .before .before .args .x))
 
-below-small : (c : tie.After-nearest) → c .nearest .result ≤ 65536
-below-small c = subst (λ (n : ℕ). n ≤ 65536) (sym (below c)) (whole-le near 65536 (neg (mul binary64 (c .before .before .before .args .x) f4)))
-
-above-small : (c : tie.After-nearest2) → c .nearest2 .result ≤ 65536
-above-small c = subst (λ (n : ℕ). n ≤ 65536) (sym (above c)) (whole-le near 65536 (mul binary64 (c .before .before .before .args .x) f4))
-
-cast-result : tie.Need-cast-result
-cast-result c = small (c .nearest .result) (below-small c)
+cast-n : tie.Need-cast-n
+cast-n c = small (c .nearest .result) (answer-small c)
 
 sub-result : tie.Need-sub-result
-sub-result c = subst (SFits w64) (sym (less (c .nearest .result) (below-small c))) (small-neg (c .nearest .result) (below-small c))
-
-nearest-requires-2 : tie.Need-nearest-requires-2
-nearest-requires-2 c κs = search needs
-
-cast-result-2 : tie.Need-cast-result-2
-cast-result-2 c = small (c .nearest2 .result) (above-small c)
+sub-result c =
+    let n = c .before .nearest .result in
+    subst (SFits w64) (sym (less n (answer-small (c .before)))) (small-neg n (answer-small (c .before)))
 
 returns : tie.Need-returns
 unfolding ofBits
 returns c =
-    let n = c .nearest .result in
-    let start = c .before .before .before in
+    let x = c .before .before .before .before .before .args .x in
     toZ-ofZ (sub-result c)
-    ∙ less n (below-small c)
-    ∙ ap (λ (n : ℕ). negℤ (pos n)) (below c)
-    ∙ quarter-below (start .args .x) (held start) (c .before .if1 .taken)
+    ∙ less (c .before .nearest .result) (answer-small (c .before))
+    ∙ ap (λ (n : ℕ). negℤ (pos n)) (answer (c .before))
+    ∙ quarter-below x (c .if1 .taken)
 
 returns-2 : tie.Need-returns-2
 unfolding ofBits
 returns-2 c =
-    let start = c .before .before .before in
-    toZ-pos w64 (small (c .nearest2 .result) (above-small c) .sfits)
-    ∙ ap pos (above c)
-    ∙ quarter-above (start .args .x) (held start) (c .before .if1 .left)
+    let x = c .before .before .before .before .before .args .x in
+    toZ-pos w64 (small (c .before .nearest .result) (answer-small (c .before)) .sfits)
+    ∙ ap pos (answer (c .before))
+    ∙ quarter-above x (c .if1 .left)
 
 pub quarter-spec : {M : Type 1} → statement M
 quarter-spec =
     tie.close
     (tie.spec
-    f32-to-f64-with-nan-requires
+    magnitude-requires
+    above-zero-requires
+    up-to-requires
     nearest-requires
-    cast-result
+    cast-n
     sub-result
-    nearest-requires-2
-    cast-result-2
     returns
     returns-2)

@@ -1,6 +1,8 @@
 -- `draw_rectangle` meets its contract: the columns and rows that are left out emit nothing.
+use mathlib.Core.Path.{ap, _∙_}
 use native.Mathlib.Omega.{arith}
-use Rattle.draw.proofs.Drawing.{room-less}
+use Rattle.combiner.specs.Combine.{colorOf}
+use Rattle.paint.proofs.Drawing.{room-less}
 use Rattle.draw.proofs.Shapes.{bounded, rectangle-drawn}
 use borrow.Author.Needs.{needs}
 use Rattle.draw.proofs.rectangles.draw_rectangle.Statement.{statement}
@@ -16,15 +18,26 @@ area-requires : tie.Need-area-requires
 area-requires c κs = search needs
 
 columns-requires : tie.Need-columns-requires
-columns-requires c κs = let b = bounded _ _ _ (c .area .ensures) in (b .across, omega (arith, b .right-in, c .before .before .before .before .before .before .pre .1 .wide))
+columns-requires c κs = let b = bounded _ _ _ (c .area .ensures) in (b .across, omega (arith, b .right-in, c .before .before .before .before .before .before .before .pre .1 .wide))
 
 rows-requires : tie.Need-rows-requires
-rows-requires c κs = let b = bounded _ _ _ (c .before .area .ensures) in (b .down, omega (arith, b .bottom-in, c .before .before .before .before .before .before .before .pre .1 .high))
+rows-requires c κs = let b = bounded _ _ _ (c .before .area .ensures) in (b .down, omega (arith, b .bottom-in, c .before .before .before .before .before .before .before .before .pre .1 .high))
+
+full-columns-requires : tie.Need-full-columns-requires
+full-columns-requires c κs =
+    let b = bounded _ _ _ (c .before .before .area .ensures) in
+    (c .before .columns .ensures .order, omega (arith, c .before .columns .ensures .to, b .right-in, c .before .before .before .before .before .before .before .before .before .pre .1 .wide))
 
 draw-rows-requires : tie.Need-draw-rows-requires
 draw-rows-requires c κs =
-    let b = bounded _ _ _ (c .before .before .before .before .before .area .ensures) in
-    (omega (arith, c .before .before .before .before .columns .ensures .to, b .right-in), room-less (c .before .before .before .before .before .before .before .before .before .before .before .pre .1) (omega (arith, c .before .before .before .rows .ensures .to, b .bottom-in)))
+    let b = bounded _ _ _ (c .before .before .before .before .before .before .area .ensures) in
+    let s = c .before .before .before .before .before .before .before .before .before .before .before .before .before in (
+      (
+        omega (arith, c .before .before .before .before .before .columns .ensures .to, b .right-in),
+        record { inked = s .pre .0 .1; color = c .before .before .before .before .before .before .before .color .ensures ∙ ap (colorOf (s .args .pen .combiner)) (c .before .before .before .before .before .before .before .before .full-shade .ensures) },
+      ),
+      (c .before .before .before .full-columns .ensures, room-less (s .pre .1) (omega (arith, c .before .before .before .before .rows .ensures .to, b .bottom-in))),
+    )
 
 same-length : tie.Need-same-length
 same-length c = search needs
@@ -37,7 +50,7 @@ same-length-3 c = search needs
 
 returns : tie.Need-returns
 returns c =
-    rectangle-drawn _ _ _ _ _ _ (c .before .before .before .before .before .before .before .before .before .before .before .before .before .before .full-shade .ensures) (c .before .before .before .before .before .before .before .before .before .before .before .before .before .color .ensures) (c .before .before .before .before .before .before .before .before .before .before .before .before .area .ensures) (c .before .before .before .before .before .before .before .before .before .before .before .columns .ensures) (c .before .before .before .before .before .before .before .before .before .before .rows .ensures)
+    rectangle-drawn _ _ _ _ _ _ (c .before .before .before .before .before .before .before .before .before .before .before .before .before .before .before .full-shade .ensures) (c .before .before .before .before .before .before .before .before .before .before .before .before .before .before .color .ensures) (c .before .before .before .before .before .before .before .before .before .before .before .before .before .area .ensures) (c .before .before .before .before .before .before .before .before .before .before .before .before .columns .ensures) (c .before .before .before .before .before .before .before .before .before .before .before .rows .ensures)
     (c .before .before .before .before .before .before .draw-rows .ensures)
 
 pub draw-rectangle-spec : {M : Type 1} → statement M
@@ -49,6 +62,7 @@ draw-rectangle-spec =
     area-requires
     columns-requires
     rows-requires
+    full-columns-requires
     draw-rows-requires
     same-length
     same-length-2

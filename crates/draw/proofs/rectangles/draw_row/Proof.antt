@@ -1,74 +1,56 @@
--- `rectangles::draw_row` meets its contract: a loop over the pixels of a row.
-use Prim.Native.Nat.{ℕ, _+_, _-_, _*_}
-use native.Mathlib.Nat.{le-trans}
-use native.Mathlib.Omega.{arith}
-use mathlib.Core.Path.{refl}
-use Rattle.frame.specs.Frame.{frameOf}
-use Rattle.draw.proofs.Drawing.{Drawing, drawing-start, drawing-fits, drawing-more, drawing-done, room-now, same-colors, same-coverages, same-marks}
-use Rattle.draw.specs.Parts.{rectanglePixel}
-use Rattle.raster.specs.Emitted.{rectangleFragment}
-use Rattle.draw.proofs.Shapes.{row-most}
+-- `rectangles::draw_row` meets its contract: whole, or its full columns apart.
+use mathlib.Core.Path.{sym, _∙_}
+use borrow.Author.Needs.{needs}
 use Rattle.draw.proofs.rectangles.draw_row.Statement.{statement}
 use Rattle.draw.proofs.rectangles.draw_row.Tie as tie
 
-abbrev Inv-loop : tie.InvT-loop
-Inv-loop colors₀ coverages₀ marks₀ mode combiner color sides width left right y n₀ x₀ colors coverages marks n x = Drawing mode combiner (rectanglePixel mode color sides width y) left right (frameOf colors₀ coverages₀ marks₀) x (frameOf colors coverages marks) n
+row-bits-requires : tie.Need-row-bits-requires
+row-bits-requires c κs = search needs
 
-abbrev μ-loop : tie.MeasureT-loop
-μ-loop colors₀ coverages₀ marks₀ mode combiner color sides width left right y n₀ x₀ colors coverages marks n x = right - x
+own-row-requires : tie.Need-own-row-requires
+own-row-requires c κs =
+    let s = c .before .before .before .before .before .before .before .before .before in
+    ((s .pre .0 .0, s .pre .0 .1, c .before .before .before .before .if1 .taken, sym (c .before .before .before .if2 .taken) ∙ c .before .before .before .before .before .row-bits .ensures), (s .pre .1 .0, s .pre .1 .1))
 
-loop-holds : tie.Need-loop-holds Inv-loop μ-loop
-loop-holds c = drawing-start _ _ _ _ _ _ (c .before .before .before .pre .1 .fit)
+same-length : tie.Need-same-length
+same-length c = search needs
 
-draw-pixel-requires : tie.Need-draw-pixel-requires Inv-loop μ-loop
-draw-pixel-requires c κs = (omega (arith, c .before .before .before .loop-test .taken, c .before .before .before .before .before .before .before .before .pre .0), room-now (c .before .before .before .before .before .before .before .before .pre .1) (c .before .before .before .before .loop .inv .fit))
+same-length-2 : tie.Need-same-length-2
+same-length-2 c = search needs
 
-add-n : tie.Need-add-n Inv-loop μ-loop
-add-n c =
-    let s = c .before .before .before .before .before .before .before .before .before .before .before .before .before .before .before in
-    let a = s .args in
-    omega (
-      arith,
-      le-trans (drawing-fits _ _ _ _ _ _ (c .before .before .before .before .before .before .before .before .before .before .loop-test .taken) (c .before .before .before .before .before .before .before .before .before .before .before .loop .inv) (c .before .before .before .before .before .before .draw-pixel .ensures))
-          (row-most (rectangleFragment (a .mode .antialias) (a .color) (a .sides) (a .y)) (λ (x : ℕ). a .y * a .width + x) (a .left) (a .right)),
-      s .pre .0,
-      s .pre .1 .wide,
-    )
+same-length-3 : tie.Need-same-length-3
+same-length-3 c = search needs
 
-add-x : tie.Need-add-x Inv-loop μ-loop
-add-x c = omega arith
+returns : tie.Need-returns
+returns c = search needs
 
-loop-less : tie.Need-loop-less Inv-loop μ-loop
-loop-less c = omega arith
+draw-span-requires : tie.Need-draw-span-requires
+draw-span-requires c κs = search needs
 
-loop-again : tie.Need-loop-again Inv-loop μ-loop
-loop-again c = drawing-more _ _ _ _ _ _ (c .before .before .before .before .before .before .before .before .before .before .loop-test .taken) (c .before .before .before .before .before .before .before .before .before .before .before .loop .inv) (c .before .before .before .before .before .before .draw-pixel .ensures) refl
+same-length-4 : tie.Need-same-length-4
+same-length-4 c = search needs
 
-same-length : tie.Need-same-length Inv-loop μ-loop
-same-length c = same-colors (c .before .before .before .before .before .pre .1 .fit) (c .before .loop .inv .fit)
+same-length-5 : tie.Need-same-length-5
+same-length-5 c = search needs
 
-same-length-2 : tie.Need-same-length-2 Inv-loop μ-loop
-same-length-2 c = same-coverages (c .before .before .before .before .before .pre .1 .fit) (c .before .loop .inv .fit)
+same-length-6 : tie.Need-same-length-6
+same-length-6 c = search needs
 
-same-length-3 : tie.Need-same-length-3 Inv-loop μ-loop
-same-length-3 c = same-marks (c .before .before .before .before .before .pre .1 .fit) (c .before .loop .inv .fit)
-
-returns : tie.Need-returns Inv-loop μ-loop
-returns c = drawing-done _ _ _ _ _ _ (c .loop-test .left) (c .before .loop .inv)
+returns-2 : tie.Need-returns-2
+returns-2 c = search needs
 
 pub draw-row-spec : {M : Type 1} → statement M
 draw-row-spec =
     tie.close
     (tie.spec
-    Inv-loop
-    μ-loop
-    loop-holds
-    draw-pixel-requires
-    add-n
-    add-x
-    loop-less
-    loop-again
+    row-bits-requires
+    own-row-requires
     same-length
     same-length-2
     same-length-3
-    returns)
+    returns
+    draw-span-requires
+    same-length-4
+    same-length-5
+    same-length-6
+    returns-2)

@@ -17,7 +17,7 @@ returns : tie.Need-returns
 returns c = three-absent _ _ _ _ _ _ (c .before .before .triangle-at .ensures) (c .enum-told .given .1) (c .before .before .before .before .before .before .before .before .before .pre .1 .1 .1 .fit)
 
 draw-triangle-requires : tie.Need-draw-triangle-requires
-draw-triangle-requires c κs = (placed _ _ _ _ (c .before .before .before .before .before .before .before .before .before .before .before .before .before .pre .1 .0) _ (c .before .before .before .before .before .before .before .before .before .before .before .before .before .pre .0) (c .before .before .before .before .before .before .triangle-at .ensures) (c .before .before .before .before .a .given .1), (c .before .before .before .before .before .before .before .before .before .before .before .before .before .pre .1 .1 .0, c .before .before .before .before .before .before .before .before .before .before .before .before .before .pre .1 .1 .1))
+draw-triangle-requires c κs = ((placed _ _ _ _ (c .before .before .before .before .before .before .before .before .before .before .before .before .before .pre .1 .0) _ (c .before .before .before .before .before .before .before .before .before .before .before .before .before .pre .0 .0) (c .before .before .before .before .before .before .triangle-at .ensures) (c .before .before .before .before .a .given .1), c .before .before .before .before .before .before .before .before .before .before .before .before .before .pre .0 .1), (c .before .before .before .before .before .before .before .before .before .before .before .before .before .pre .1 .1 .0, c .before .before .before .before .before .before .before .before .before .before .before .before .before .pre .1 .1 .1))
 
 same-length : tie.Need-same-length
 same-length c = search needs

@@ -4,7 +4,7 @@ use native.Mathlib.Nat.{le-trans}
 use native.Mathlib.Omega.{arith}
 use mathlib.Core.Path.{refl}
 use Rattle.frame.specs.Frame.{frameOf}
-use Rattle.draw.proofs.Drawing.{Drawing, drawing-start, drawing-fits, drawing-more, drawing-done, room-now, room-row, same-colors, same-coverages, same-marks}
+use Rattle.paint.proofs.Drawing.{Drawing, drawing-start, drawing-fits, drawing-more, drawing-done, room-now, room-row, same-colors, same-coverages, same-marks}
 use Rattle.draw.specs.Parts.{triangleRow}
 use Rattle.raster.specs.Emitted.{triangleFragment}
 use Rattle.edges.specs.Span.{edgesOf}
@@ -13,10 +13,10 @@ use Rattle.draw.proofs.triangles.draw_rows.Statement.{statement}
 use Rattle.draw.proofs.triangles.draw_rows.Tie as tie
 
 abbrev Inv-loop : tie.InvT-loop
-Inv-loop colors₀ coverages₀ marks₀ mode combiner v t width left right top bottom n₀ y₀ colors coverages marks n y = Drawing mode combiner (triangleRow mode combiner v width t left right) top bottom (frameOf colors₀ coverages₀ marks₀) y (frameOf colors coverages marks) n
+Inv-loop colors₀ coverages₀ marks₀ pen v t width left right top bottom n₀ y₀ colors coverages marks n y = Drawing (pen .mode) (pen .combiner) (triangleRow (pen .mode) (pen .combiner) v width t left right) top bottom (frameOf colors₀ coverages₀ marks₀) y (frameOf colors coverages marks) n
 
 abbrev μ-loop : tie.MeasureT-loop
-μ-loop colors₀ coverages₀ marks₀ mode combiner v t width left right top bottom n₀ y₀ colors coverages marks n y = bottom - y
+μ-loop colors₀ coverages₀ marks₀ pen v t width left right top bottom n₀ y₀ colors coverages marks n y = bottom - y
 
 loop-holds : tie.Need-loop-holds Inv-loop μ-loop
 loop-holds c = drawing-start _ _ _ _ _ _ (c .before .before .before .pre .1 .1 .fit)
@@ -31,7 +31,7 @@ add-n c =
     omega (
       arith,
       le-trans (drawing-fits _ _ _ _ _ _ (c .before .before .before .before .before .before .before .before .before .before .loop-test .taken) (c .before .before .before .before .before .before .before .before .before .before .before .loop .inv) (c .before .before .before .before .before .before .draw-row .ensures))
-          (rows-most (λ (y : ℕ). triangleFragment (a .mode .antialias) (a .combiner) (a .v) (edgesOf (a .t) y) y) (λ (y x : ℕ). y * a .width + x)
+          (rows-most (λ (y : ℕ). triangleFragment (a .pen .mode .antialias) (a .pen .combiner) (a .v) (edgesOf (a .t) y) y) (λ (y x : ℕ). y * a .width + x)
           (a .left) (a .right) (a .top) (a .bottom) (omega (arith, s .pre .0 .1, s .pre .1 .1 .wide))),
       s .pre .1 .1 .high,
     )

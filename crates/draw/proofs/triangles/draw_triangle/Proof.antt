@@ -4,7 +4,7 @@ use mir.Val.{ofZ, toZ}
 use mir.ValLaws.{toZ-ofZ}
 use mathlib.Core.Path.{ap, sym, _∙_}
 use native.Mathlib.Omega.{arith}
-use Rattle.draw.proofs.Drawing.{room-less}
+use Rattle.paint.proofs.Drawing.{room-less}
 use Rattle.draw.proofs.Shapes.{bounded, near, tame-as, culled-none, flat-none, triangle-drawn}
 use borrow.Author.Needs.{needs}
 use Rattle.draw.proofs.triangles.draw_triangle.Statement.{statement}
@@ -23,7 +23,7 @@ corners-requires : tie.Need-corners-requires
 corners-requires c κs = search needs
 
 quarter-area-requires : tie.Need-quarter-area-requires
-quarter-area-requires c κs = near _ _ _ (c .before .sort .ensures) (c .corners .ensures) (c .before .before .before .before .before .before .before .pre .0)
+quarter-area-requires c κs = near _ _ _ (c .before .sort .ensures) (c .corners .ensures) (c .before .before .before .before .before .before .before .pre .0 .0)
 
 returns-2 : tie.Need-returns-2
 returns-2 c =
@@ -31,7 +31,7 @@ returns-2 c =
     (sym (c .before .before .before .before .before .culled .ensures) ∙ c .before .before .before .before .if1 .left) (sym (toZ-ofZ w64 (c .before .quarter-area .result) (record { sfits = c .before .quarter-area .ok })) ∙ ap (toZ w64) (c .if2 .taken)) (c .before .before .before .before .before .before .before .before .before .pre .1 .1 .fit)
 
 setup-requires : tie.Need-setup-requires
-setup-requires c κs = near _ _ _ (c .before .before .before .sort .ensures) (c .before .before .corners .ensures) (c .before .before .before .before .before .before .before .before .before .pre .0)
+setup-requires c κs = near _ _ _ (c .before .before .before .sort .ensures) (c .before .before .corners .ensures) (c .before .before .before .before .before .before .before .before .before .pre .0 .0)
 
 area-requires : tie.Need-area-requires
 area-requires c κs = search needs
@@ -42,9 +42,9 @@ rows-requires c κs = bounded _ _ _ (c .area .ensures) .down
 draw-rows-requires : tie.Need-draw-rows-requires
 draw-rows-requires c κs =
     let b = bounded _ _ _ (c .before .before .before .before .area .ensures) in (
-      (b .across, b .right-in),
+      (b .across, b .right-in, c .before .before .before .before .before .before .before .before .before .before .before .before .before .before .before .pre .0 .1),
       (
-        tame-as _ _ _ (c .before .before .before .before .before .before .before .before .before .sort .ensures) (c .before .before .before .before .before .before .before .before .corners .ensures) (c .before .before .before .before .before .setup .ensures) (c .before .before .before .before .before .before .before .before .before .before .before .before .before .before .before .pre .0),
+        tame-as _ _ _ (c .before .before .before .before .before .before .before .before .before .sort .ensures) (c .before .before .before .before .before .before .before .before .corners .ensures) (c .before .before .before .before .before .setup .ensures) (c .before .before .before .before .before .before .before .before .before .before .before .before .before .before .before .pre .0 .0),
         room-less (c .before .before .before .before .before .before .before .before .before .before .before .before .before .before .before .pre .1 .1) (omega (arith, c .before .before .before .rows .ensures .to, b .bottom-in)),
       ),
     )

@@ -4,7 +4,7 @@ use native.Mathlib.Nat.{le-trans}
 use native.Mathlib.Omega.{arith}
 use mathlib.Core.Path.{refl}
 use Rattle.frame.specs.Frame.{frameOf}
-use Rattle.draw.proofs.Drawing.{Drawing, drawing-start, drawing-fits, drawing-more, drawing-done, room-now, same-colors, same-coverages, same-marks}
+use Rattle.paint.proofs.Drawing.{Drawing, drawing-start, drawing-fits, drawing-more, drawing-done, room-now, same-colors, same-coverages, same-marks}
 use denote.Ref.{now}
 use lib.ListN.{length}
 use Rattle.raster.specs.Admitted.{triangleAt}
@@ -14,16 +14,16 @@ use Rattle.draw.proofs.triangles.draw_triangles.Statement.{statement}
 use Rattle.draw.proofs.triangles.draw_triangles.Tie as tie
 
 abbrev Inv-loop : tie.InvT-loop
-Inv-loop colors₀ coverages₀ marks₀ mode combiner cull scissor width height vertices present indices count n₀ i₀ colors coverages marks n i = Drawing mode combiner (λ (i : ℕ). threeEmits mode combiner cull scissor width height (triangleAt vertices present indices i)) 0 count (frameOf colors₀ coverages₀ marks₀) i (frameOf colors coverages marks) n
+Inv-loop colors₀ coverages₀ marks₀ pen cull scissor width height vertices present indices count n₀ i₀ colors coverages marks n i = Drawing (pen .mode) (pen .combiner) (λ (i : ℕ). threeEmits (pen .mode) (pen .combiner) cull scissor width height (triangleAt vertices present indices i)) 0 count (frameOf colors₀ coverages₀ marks₀) i (frameOf colors coverages marks) n
 
 abbrev μ-loop : tie.MeasureT-loop
-μ-loop colors₀ coverages₀ marks₀ mode combiner cull scissor width height vertices present indices count n₀ i₀ colors coverages marks n i = count - i
+μ-loop colors₀ coverages₀ marks₀ pen cull scissor width height vertices present indices count n₀ i₀ colors coverages marks n i = count - i
 
 loop-holds : tie.Need-loop-holds Inv-loop μ-loop
 loop-holds c = drawing-start _ _ _ _ _ _ (c .before .before .before .before .before .before .pre .1 .1 .1 .fit)
 
 draw-indexed-requires : tie.Need-draw-indexed-requires Inv-loop μ-loop
-draw-indexed-requires c κs = (c .before .before .before .loop-test .taken, (c .before .before .before .before .before .before .before .before .before .before .before .pre .1 .0, (c .before .before .before .before .before .before .before .before .before .before .before .pre .1 .1 .0, room-now (c .before .before .before .before .before .before .before .before .before .before .before .pre .1 .1 .1) (c .before .before .before .before .loop .inv .fit))))
+draw-indexed-requires c κs = ((c .before .before .before .loop-test .taken, c .before .before .before .before .before .before .before .before .before .before .before .pre .0 .1), (c .before .before .before .before .before .before .before .before .before .before .before .pre .1 .0, (c .before .before .before .before .before .before .before .before .before .before .before .pre .1 .1 .0, room-now (c .before .before .before .before .before .before .before .before .before .before .before .pre .1 .1 .1) (c .before .before .before .before .loop .inv .fit))))
 
 add-n : tie.Need-add-n Inv-loop μ-loop
 add-n c =
@@ -32,9 +32,9 @@ add-n c =
     omega (
       arith,
       le-trans (drawing-fits _ _ _ _ _ _ (c .before .before .before .before .before .before .before .before .before .before .loop-test .taken) (c .before .before .before .before .before .before .before .before .before .before .before .loop .inv) (c .before .before .before .before .before .before .draw-indexed .ensures))
-          (triangles-most (a .scissor) (s .pre .1 .1 .1 .wide) (s .pre .1 .1 .1 .high) (a .mode) (a .combiner) (a .cull)
+          (triangles-most (a .scissor) (s .pre .1 .1 .1 .wide) (s .pre .1 .1 .1 .high) (a .pen .mode) (a .pen .combiner) (a .cull)
           (triangleAt (now (a .vertices)) (now (a .present)) (now (a .indices))) (length (now (a .indices)) / 3)),
-      s .pre .0,
+      s .pre .0 .0,
     )
 
 add-i : tie.Need-add-i Inv-loop μ-loop

@@ -1,55 +1,54 @@
--- `marks_ok` meets its contract: the marks from i on decide.
-use mathlib.Core.Path.{_≡_, refl}
-use Prim.Native.Nat.{_-_}
-use native.Mathlib.Omega.{arith}
-use lib.ListN.{length, drop}
-use Rattle.frame.specs.Checks.{marksOk}
+-- `marks_ok` meets its contract: a mark that is too high, no coverage marked, every coverage marked, or some.
 use Rattle.frame.proofs.Tests.{was-true, was-false}
-use Rattle.frame.proofs.Refusals.{marks-stop, marks-next, marks-done}
+use Rattle.frame.proofs.Refusals.{marks-high, marks-unmarked, marks-marked}
+use borrow.Author.Needs.{needs}
+use mathlib.Core.Path.{sym, _∙_}
 use Rattle.frame.proofs.checks.marks_ok.Statement.{statement}
 use Rattle.frame.proofs.checks.marks_ok.Tie as tie
 
-abbrev Inv-loop : tie.InvT-loop
-Inv-loop coverages marks i₀ i = marksOk (drop i coverages) (drop i marks) ≡ marksOk coverages marks
+all-at-most-requires : tie.Need-all-at-most-requires
+all-at-most-requires c κs = search needs
 
-abbrev μ-loop : tie.MeasureT-loop
-μ-loop coverages marks i₀ i = length marks - i
+returns : tie.Need-returns
+returns c = marks-high _ _ (c .before .before .before .before .pre) (was-false (c .before .all-at-most .ensures) (c .if1 .taken))
 
-loop-holds : tie.Need-loop-holds Inv-loop μ-loop
-loop-holds c = refl
+none-marked-requires : tie.Need-none-marked-requires
+none-marked-requires c κs = search needs
 
-mark-ok-requires : tie.Need-mark-ok-requires Inv-loop μ-loop
-mark-ok-requires c κs = (omega arith, omega arith)
+returns-2 : tie.Need-returns-2
+returns-2 c =
+    marks-unmarked _ _ (was-true (c .before .before .before .all-at-most .ensures) (c .before .before .if1 .left))
+    (sym (c .before .none-marked .ensures) ∙ c .if2 .taken)
 
-returns : tie.Need-returns Inv-loop μ-loop
-returns c =
-    marks-stop _ _ (c .before .before .before .before .before .before .pre) (c .before .before .before .loop .inv) (c .before .before .loop-test .taken)
-    (was-false (c .before .mark-ok .ensures) (c .if1 .taken))
+all-marked-requires : tie.Need-all-marked-requires
+all-marked-requires c κs = search needs
 
-add-i : tie.Need-add-i Inv-loop μ-loop
-add-i c = omega arith
+all-at-most-requires-2 : tie.Need-all-at-most-requires-2
+all-at-most-requires-2 c κs = search needs
 
-loop-less : tie.Need-loop-less Inv-loop μ-loop
-loop-less c = omega arith
+returns-3 : tie.Need-returns-3
+returns-3 c =
+    let l = c .before .before .before .before .before in
+    c .all-at-most2 .ensures
+    ∙ marks-marked _ _ (l .before .before .before .before .pre) (was-true (l .before .all-at-most .ensures) (l .if1 .left))
+    (sym (c .before .before .all-marked .ensures) ∙ c .before .if3 .taken)
 
-loop-again : tie.Need-loop-again Inv-loop μ-loop
-loop-again c =
-    marks-next _ _ (c .before .before .before .before .before .before .pre) (c .before .before .before .loop .inv) (c .before .before .loop-test .taken)
-    (was-true (c .before .mark-ok .ensures) (c .if1 .left))
+mixed-ok-requires : tie.Need-mixed-ok-requires
+mixed-ok-requires c κs = search needs
 
-returns-2 : tie.Need-returns-2 Inv-loop μ-loop
-returns-2 c = marks-done _ _ (c .before .loop .inv) (c .loop-test .left)
+returns-4 : tie.Need-returns-4
+returns-4 c = search needs
 
 pub marks-ok-spec : {M : Type 1} → statement M
 marks-ok-spec =
     tie.close
     (tie.spec
-    Inv-loop
-    μ-loop
-    loop-holds
-    mark-ok-requires
+    all-at-most-requires
     returns
-    add-i
-    loop-less
-    loop-again
-    returns-2)
+    none-marked-requires
+    returns-2
+    all-marked-requires
+    all-at-most-requires-2
+    returns-3
+    mixed-ok-requires
+    returns-4)

@@ -1,26 +1,21 @@
--- `rectangle::Sides::mask` meets its contract: four pairs of bits, each below the one before. Assumes nothing.
+-- `rectangle::Sides::mask` meets its contract: the bits of the column and of the row, by the law `rect-and`. Assumes nothing.
+use mathlib.Core.Path.{sym, _∙_}
+use lib.Bits.{bitAnd}
 use borrow.Author.Needs.{needs}
-use Rattle.rectangle.proofs.Samples.{mask-joined}
+use Rattle.rectangle.proofs.Samples.{rect-and}
 use Rattle.rectangle.proofs.Sides.mask.Statement.{statement}
 use Rattle.rectangle.proofs.Sides.mask.Tie as tie
 
-row-requires : tie.Need-row-requires
-row-requires c κs = search needs
+column-bits-requires : tie.Need-column-bits-requires
+column-bits-requires c κs = search needs
 
-row-requires-2 : tie.Need-row-requires-2
-row-requires-2 c κs = search needs
-
-row-requires-3 : tie.Need-row-requires-3
-row-requires-3 c κs = search needs
-
-row-requires-4 : tie.Need-row-requires-4
-row-requires-4 c κs = search needs
+row-bits-requires : tie.Need-row-bits-requires
+row-bits-requires c κs = search needs
 
 returns : tie.Need-returns
 returns c =
-    let r = c .before .before .before in
-    let a = r .before .args in
-    mask-joined (a .self) (a .x) (a .y) (r .row .ensures) (c .before .before .row2 .ensures) (c .before .row3 .ensures) (c .row4 .ensures)
+    let a = c .before .before .args in
+    (λ i. bitAnd (c .before .column-bits .ensures i) (c .row-bits .ensures i)) ∙ sym (rect-and (a .self) (a .x) (a .y))
 
 pub mask-spec : {M : Type 1} → statement M
-mask-spec = tie.close (tie.spec row-requires row-requires-2 row-requires-3 row-requires-4 returns)
+mask-spec = tie.close (tie.spec column-bits-requires row-bits-requires returns)

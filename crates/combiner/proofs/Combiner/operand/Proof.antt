@@ -1,0 +1,91 @@
+-- `operand`: its constants and flags by the contracts of what it calls.
+use mathlib.Core.Path.{_≡_, _∙_}
+use lib.Ieee.{Float}
+use Rattle.combiner.specs.declared.Input.{Input}
+use Rattle.combiner.specs.Combine.{colorInput, alphaInput, fullShade}
+use Rattle.mode.specs.declared.Rgba.{Rgba}
+use Rattle.combiner.specs.Mixer.{orZero, operandOf}
+use borrow.Author.Needs.{needs}
+use Rattle.combiner.proofs.Combiner.operand.Statement.{statement}
+use Rattle.combiner.proofs.Combiner.operand.Tie as tie
+
+full-shade-requires : tie.Need-full-shade-requires
+full-shade-requires c κs = search needs
+
+color-input-requires : tie.Need-color-input-requires
+color-input-requires c κs = search needs
+
+value-or-zero-requires : tie.Need-value-or-zero-requires
+value-or-zero-requires c κs = search needs
+
+color-input-requires-2 : tie.Need-color-input-requires-2
+color-input-requires-2 c κs = search needs
+
+value-or-zero-requires-2 : tie.Need-value-or-zero-requires-2
+value-or-zero-requires-2 c κs = search needs
+
+color-input-requires-3 : tie.Need-color-input-requires-3
+color-input-requires-3 c κs = search needs
+
+value-or-zero-requires-3 : tie.Need-value-or-zero-requires-3
+value-or-zero-requires-3 c κs = search needs
+
+alpha-input-requires : tie.Need-alpha-input-requires
+alpha-input-requires c κs = search needs
+
+value-or-zero-requires-4 : tie.Need-value-or-zero-requires-4
+value-or-zero-requires-4 c κs = search needs
+
+shade-flag-requires : tie.Need-shade-flag-requires
+shade-flag-requires c κs = search needs
+
+shade-alpha-flag-requires : tie.Need-shade-alpha-flag-requires
+shade-alpha-flag-requires c κs = search needs
+
+alpha-flag-requires : tie.Need-alpha-flag-requires
+alpha-flag-requires c κs = search needs
+
+-- a constant is what a selector names for the full shade
+constant : {x : Float} {p : Input} {t : Rgba} (f : Rgba → Input) → x ≡ orZero p → p ≡ f t → t ≡ fullShade → x ≡ orZero (f fullShade)
+constant f e q shade = e ∙ (λ i. orZero (q i)) ∙ (λ i. orZero (f (shade i)))
+
+returns : tie.Need-returns
+unfolding operandOf
+returns c =
+    let a4 = c .before .before .before .before in
+    let v3 = a4 .before in
+    let v2 = v3 .before .before in
+    let v1 = v2 .before .before in
+    let full = v1 .before .before in
+    let s = full .before .args in
+    let shade = full .full-shade .ensures in
+    let r = constant (λ t. colorInput (s .self) (s .color) t 0) (v1 .value-or-zero .ensures) (v1 .before .color-input .ensures) shade in
+    let g = constant (λ t. colorInput (s .self) (s .color) t 1) (v2 .value-or-zero2 .ensures) (v2 .before .color-input2 .ensures) shade in
+    let b = constant (λ t. colorInput (s .self) (s .color) t 2) (v3 .value-or-zero3 .ensures) (v3 .before .color-input3 .ensures) shade in
+    let a = constant (λ t. alphaInput (s .self) (s .alpha) t) (c .before .before .before .value-or-zero4 .ensures) (a4 .alpha-input .ensures) shade in
+    let own = c .before .before .shade-flag .ensures in
+    let alpha = c .before .shade-alpha-flag .ensures in
+    λ i.
+    record {
+      constant = record { r = r i; g = g i; b = b i; a = a i };
+      own = record { r = own i; g = own i; b = own i; a = c .alpha-flag .ensures i };
+      alpha = record { r = alpha i; g = alpha i; b = alpha i; a = 0 };
+    }
+
+pub operand-spec : {M : Type 1} → statement M
+operand-spec =
+    tie.close
+    (tie.spec
+    full-shade-requires
+    color-input-requires
+    value-or-zero-requires
+    color-input-requires-2
+    value-or-zero-requires-2
+    color-input-requires-3
+    value-or-zero-requires-3
+    alpha-input-requires
+    value-or-zero-requires-4
+    shade-flag-requires
+    shade-alpha-flag-requires
+    alpha-flag-requires
+    returns)

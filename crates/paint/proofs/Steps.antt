@@ -1,0 +1,127 @@
+-- One emitted pixel: the five bytes that the rules give, stored at its place, are a step of the frame, and the frame fits again. Assumes nothing.
+use mathlib.Core.Path.{_≡_, refl, sym, ap, subst, _∙_}
+use Prim.Native.Nat.{ℕ, zero, suc, _+_, _*_, _≤_, _<_}
+use native.Mathlib.Omega.{arith}
+use mathlib.Core.Bool.{Bool, true, false, cond}
+use mathlib.Core.List.{List, [], _∷_}
+use lib.ListN.{length, getD, set}
+use lib.Ieee.{Float}
+use Rattle.mode.specs.declared.RenderMode.{RenderMode}
+use Rattle.mode.specs.declared.Rgba.{Rgba}
+use Rattle.combiner.specs.declared.Combiner.{Combiner}
+use Rattle.edges.specs.Sample.{countOf}
+use Rattle.cell.specs.declared.Cell.{Cell}
+use Rattle.blender.specs.declared.Coverage.the-variants.{Known, Unknown}
+use Rattle.cell.specs.declared.Source.{Source}
+use Rattle.cell.specs.Marks.{colorMarked, coverageMarked, coverageOf}
+use Rattle.cell.specs.Rules.{orZero, cellStep}
+use Rattle.cell.specs.Alike.{AlikeCell}
+use Rattle.cell.proofs.Alike.{cell-alike, kept-colors, kept-coverage}
+use Rattle.raster.specs.declared.Fragment.{Fragment}
+use Rattle.raster.specs.declared.Fragment.the-variants.{Empty, Covered}
+use Rattle.raster.specs.Emitted.{emits}
+use Rattle.frame.specs.Frame.{Frame, Fit, frameOf, cellAt, putCell, knownCell, putIf, putKnown}
+use Rattle.paint.specs.Steps.{Drew, stepFrame}
+use Rattle.paint.specs.Pixel.{emitOf, samplesOf, Counted}
+use Rattle.paint.proofs.Fits.{fit-step}
+
+module _ (mode : RenderMode) (k : Combiner) (f : Frame) (pixel mask : ℕ) (color : Rgba) (shade : Float) where
+  pub stored :
+      {n : ℕ} {x : Cell} → n ≡ countOf mask
+      → x ≡ cellStep mode k (record { color = color; «shade_alpha» = shade; count = n }) (cellAt f pixel)
+      → putCell f pixel x ≡ stepFrame mode k f (emitOf pixel mask color shade)
+  unfolding stepFrame
+  stored hn hx =
+      ap (putCell f pixel) (hx ∙ (λ i. cellStep mode k (record { color = color; «shade_alpha» = shade; count = hn i }) (cellAt f pixel)))
+
+-- ---- a pixel read and stored as far as it is known
+
+known-alike : (x : Cell) → AlikeCell (knownCell x) x
+known-alike x =
+    record {
+      mark = refl;
+      red = λ t. λ i. cond (t i) (x .red) 0;
+      green = λ t. λ i. cond (t i) (x .green) 0;
+      blue = λ t. λ i. cond (t i) (x .blue) 0;
+      coverage = λ t. λ i. cond (t i) (x .coverage) 0;
+    }
+
+-- a known coverage keeps its bound
+pub known-sound : (x : Cell) → orZero (coverageOf (x .mark) (knownCell x .coverage)) ≡ orZero (coverageOf (x .mark) (x .coverage))
+known-sound x = go (coverageMarked (x .mark))
+  where
+    go : (b : Bool) → orZero (cond b (Known (cond b (x .coverage) 0)) Unknown) ≡ orZero (cond b (Known (x .coverage)) Unknown)
+    go true = refl
+    go false = refl
+
+-- storing what is there
+pub set-back : (l : List ℕ) (i : ℕ) → i < length l → set l i (getD l i 0) ≡ l
+set-back [] i h = absurd (omega arith)
+set-back (x ∷ l) zero h = refl
+set-back (x ∷ l) (suc i) h = ap (λ (m : List ℕ). x ∷ m) (set-back l i (omega arith))
+
+three-back :
+    (l : List ℕ) (i : ℕ) → i + 2 < length l
+    → set (set (set l i (getD l i 0)) (i + 1) (getD l (i + 1) 0)) (i + 2) (getD l (i + 2) 0) ≡ l
+three-back l i h =
+    ap (λ (m : List ℕ). set (set m (i + 1) (getD l (i + 1) 0)) (i + 2) (getD l (i + 2) 0)) (set-back l i (omega arith))
+    ∙ ap (λ (m : List ℕ). set m (i + 2) (getD l (i + 2) 0)) (set-back l (i + 1) (omega arith))
+    ∙ set-back l (i + 2) h
+
+module _ (f : Frame) (p : ℕ) (x y : Cell) (a : AlikeCell x y) (room : 3 * p + 2 < length (f .colors)) (place : p < length (f .coverages)) where
+  known-colors :
+      (colorMarked (y .mark) ≡ false → (y .red ≡ getD (f .colors) (3 * p) 0) × ((y .green ≡ getD (f .colors) (3 * p + 1) 0) × (y .blue ≡ getD (f .colors) (3 * p + 2) 0)))
+      → putKnown f p x .colors ≡ putCell f p y .colors
+  known-colors kept = go (colorMarked (x .mark)) refl
+    where
+      go :
+          (b : Bool) → colorMarked (x .mark) ≡ b
+          → putIf b (putIf b (putIf b (f .colors) (3 * p) (x .red)) (3 * p + 1) (x .green)) (3 * p + 2) (x .blue) ≡ putCell f p y .colors
+      go true e = λ i. set (set (set (f .colors) (3 * p) (a .red e i)) (3 * p + 1) (a .green e i)) (3 * p + 2) (a .blue e i)
+      go false e =
+          let k = kept (ap colorMarked (sym (a .mark)) ∙ e) in
+          sym ((λ i. set (set (set (f .colors) (3 * p) (k .0 i)) (3 * p + 1) (k .1 .0 i)) (3 * p + 2) (k .1 .1 i)) ∙ three-back (f .colors) (3 * p) room)
+
+  known-coverages : (coverageMarked (y .mark) ≡ false → y .coverage ≡ getD (f .coverages) p 0) → putKnown f p x .coverages ≡ putCell f p y .coverages
+  known-coverages kept = go (coverageMarked (x .mark)) refl
+    where
+      go : (b : Bool) → coverageMarked (x .mark) ≡ b → putIf b (f .coverages) p (x .coverage) ≡ putCell f p y .coverages
+      go true e = λ i. set (f .coverages) p (a .coverage e i)
+      go false e = sym (ap (set (f .coverages) p) (kept (ap coverageMarked (sym (a .mark)) ∙ e)) ∙ set-back (f .coverages) p place)
+
+module _ (mode : RenderMode) (k : Combiner) (f : Frame) (pixel mask : ℕ) (color : Rgba) (shade : Float) where
+  -- a step on what is known, stored as far as it then is known, is a step of the frame
+  pub stored-known :
+      {n : ℕ} {b x : Cell} {g : Frame} → n ≡ countOf mask → b ≡ knownCell (cellAt f pixel)
+      → x ≡ cellStep mode k (record { color = color; «shade_alpha» = shade; count = n }) b
+      → g ≡ putKnown f pixel x → 3 * pixel + 2 < length (f .colors) → pixel < length (f .coverages)
+      → g ≡ stepFrame mode k f (emitOf pixel mask color shade)
+  stored-known {n} {b} {x} hn hb hx hg room place =
+      let s : Source = record { color = color; «shade_alpha» = shade; count = n } in
+      let c = cellAt f pixel in
+      let y = cellStep mode k s c in
+      let a : AlikeCell x y = subst (λ (z : Cell). AlikeCell z y) (sym (hx ∙ ap (cellStep mode k s) hb)) (cell-alike mode k s (knownCell c) c (known-alike c)) in
+      hg
+      ∙ (λ i. frameOf (known-colors f pixel x y a room place (kept-colors mode k s c) i) (known-coverages f pixel x y a room place (kept-coverage mode k s c) i) (set (f .marks) pixel (a .mark i)))
+      ∙ stored mode k f pixel mask color shade hn refl
+
+-- the samples of a fragment that is covered
+pub counted : {r : Fragment} {mask : ℕ} {a b c d e : Float} → r ≡ Covered mask a b c d e → Counted r → (1 ≤ countOf mask) × (countOf mask ≤ 8)
+counted {r} h (l, u) = let e = ap samplesOf h in (subst (λ (n : ℕ). 1 ≤ n) e l, subst (λ (n : ℕ). n ≤ 8) e u)
+
+-- a pixel that emits nothing, and one that emits
+module _ (mode : RenderMode) (k : Combiner) {f : Frame} {n : ℕ} (fit : Fit n f) (pixel : ℕ) {r : Fragment} where
+  pub drew-none : r ≡ Empty → Drew mode k n (emits r pixel) f f 0
+  drew-none h = subst (λ (q : Fragment). Drew mode k n (emits q pixel) f f 0) (sym h) (record { ran = record { state = refl; count = refl }; fit = fit })
+
+  pub drew-one :
+      {g : Frame} {mask : ℕ} {a b c d e : Float} → r ≡ Covered mask a b c d e → Counted r
+      → g ≡ stepFrame mode k f (emitOf pixel mask (record { r = a; g = b; b = c; a = d }) e)
+      → Drew mode k n (emits r pixel) f g 1
+  drew-one {g} {mask} {a} {b} {c} {d} {e} h w t =
+      let y = counted h w in
+      subst (λ (q : Fragment). Drew mode k n (emits q pixel) f g 1) (sym h)
+      (record {
+        ran = record { state = t; count = refl };
+        fit = subst (Fit n) (sym t) (fit-step mode k (emitOf pixel mask (record { r = a; g = b; b = c; a = d }) e) fit (y .0) (y .1));
+      })

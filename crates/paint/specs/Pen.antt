@@ -1,0 +1,70 @@
+-- What does not turn on the pixel, worked out once a draw. Definitions only.
+use mathlib.Core.Path.{_≡_}
+use mathlib.Core.Bool.{true, cond}
+use mathlib.Core.List.{List}
+use Prim.Native.Nat.{ℕ, _+_, _*_}
+use lib.Ieee.{Float}
+use lib.Dec.{eqb}
+use Rattle.mode.specs.declared.Rgba.{Rgba}
+use Rattle.combiner.specs.declared.Combiner.{Combiner}
+use Rattle.combiner.specs.declared.Color.{Color}
+use Rattle.combiner.specs.Combine.{colorOf, fullShade}
+use Rattle.combiner.specs.Mixer.{colorValue, mixedBy, mixerOf}
+use Rattle.blender.specs.Mux.{muxOf}
+use Rattle.blender.specs.Known.{opaqueOf}
+use Rattle.cell.specs.Own.{ownColors, sevenOf, setsOf}
+use Rattle.vertex.specs.declared.row.ShadeRow.{ShadeRow}
+use Rattle.vertex.specs.Row.{shadeOn}
+use Rattle.edges.specs.declared.Edges.{Edges}
+use Rattle.edges.specs.Sample.{maskOf}
+use Rattle.raster.specs.declared.Fragment.the-variants.{Empty}
+use Rattle.raster.specs.Emitted.{Emit, shown, covered, emits, mixedFragment, coloredFragment}
+use Rattle.paint.specs.declared.pen.Pen.{Pen}
+
+-- its flags say no more than what holds
+pub record Inked (pen : Pen) : Type 0 where
+  pub mixer : pen .mixer ≡ mixerOf (pen .combiner)
+  pub own : pen .own ≡ ownColors (pen .mode) (pen .combiner) (pen .color)
+  pub seven : pen .seven ≡ sevenOf (pen .mode)
+  pub sets : pen .sets ≡ setsOf (pen .mode)
+  pub plain : pen .plain ≡ eqb (muxOf (pen .mode .«blender_mux») .p) 0
+  -- a rectangle's pixels are opaque, of the colour `color`
+  pub opaque : pen .opaque ≡ true → (opaqueOf (pen .mode) (pen .color .a) ≡ true) × (colorOf (pen .combiner) fullShade ≡ colorValue (pen .color))
+  -- and so are a triangle's
+  pub flat : pen .flat ≡ true → (opaqueOf (pen .mode) (pen .color .a) ≡ true) × ((s : Rgba) → colorOf (pen .combiner) s ≡ colorValue (pen .color))
+
+-- a combiner has a colour for every shade, as those that `new` makes have
+abbrev pub Mixed : Combiner → Type 0
+Mixed k = (s : Rgba) → colorOf k s ≡ colorValue (mixedBy (mixerOf k) s)
+
+-- a pen of such a combiner
+pub record Ready (pen : Pen) : Type 0 where
+  pub inked : Inked pen
+  pub mixes : Mixed (pen .combiner)
+
+-- the pen's own colour is stored as it is
+pub record Solid (pen : Pen) : Type 0 where
+  pub own : pen .own ≡ ownColors (pen .mode) (pen .combiner) (pen .color)
+  pub opaque : opaqueOf (pen .mode) (pen .color .a) ≡ true
+
+-- a pixel of that colour
+abbrev pub ownPixel : Pen → ℕ → ℕ → Float → List Emit
+ownPixel pen mask pixel shade = emits (cond (shown (pen .mode .antialias) mask) (covered mask (colorValue (pen .color)) shade) Empty) pixel
+
+-- ---- a triangle's row y with the edges e, in a frame of width w: by its shades, and where every pixel has the pen's own colour
+abbrev pub shadedPixel : Pen → ShadeRow → ℕ → ℕ → ℕ → ℕ → List Emit
+shadedPixel pen row mask w y x = emits (mixedFragment (pen .mode .antialias) (pen .mixer) mask (shadeOn row x)) (y * w + x)
+
+abbrev pub shadedAt : Pen → ShadeRow → Edges → ℕ → ℕ → ℕ → List Emit
+shadedAt pen row e w y x = shadedPixel pen row (maskOf e x) w y x
+
+abbrev pub ownAt : Pen → Edges → ℕ → ℕ → (ℕ → Float) → ℕ → List Emit
+ownAt pen e w y shade x = ownPixel pen (maskOf e x) (y * w + x) (shade x)
+
+-- ---- a rectangle's pixel, whose colour is combined once
+pub record Tinted (pen : Pen) (c : Color) : Type 0 where
+  pub inked : Inked pen
+  pub color : c ≡ colorOf (pen .combiner) fullShade
+
+abbrev pub coloredPixel : Pen → Color → ℕ → ℕ → ℕ → ℕ → List Emit
+coloredPixel pen c mask w y x = emits (coloredFragment (pen .mode .antialias) c mask) (y * w + x)

@@ -1,0 +1,36 @@
+-- One emitted pixel, the room that a frame has for the pixels of its rows, and a part of a row with all its samples. Definitions only.
+use Prim.Native.Nat.{ℕ, _*_, _≤_, _<_}
+use mathlib.Core.Path.{_≡_}
+use lib.Ieee.{Float}
+use lib.ListN.{length}
+use Rattle.mode.specs.declared.Rgba.{Rgba}
+use Rattle.range.specs.declared.Range.{Range}
+use Rattle.edges.specs.declared.Edges.{Edges}
+use Rattle.edges.specs.Sample.{countOf, maskOf}
+use Rattle.raster.specs.declared.Fragment.{Fragment}
+use Rattle.raster.specs.declared.Fragment.the-variants.{Empty, Covered}
+use Rattle.raster.specs.Emitted.{Emit}
+use Rattle.frame.specs.Frame.{Frame, Fit}
+
+abbrev pub emitOf : ℕ → ℕ → Rgba → Float → Emit
+emitOf pixel mask color shade = record { pixel = pixel; mask = mask; color = color; shade = shade }
+
+-- the number of samples of a pixel that emits something; 1 stands for one that does not
+abbrev pub samplesOf : Fragment → ℕ
+samplesOf Empty = 1
+samplesOf (Covered mask r g b a shade) = countOf mask
+
+-- a pixel that emits something has 1 to 8 samples
+abbrev pub Counted : Fragment → Type 0
+Counted fragment = (1 ≤ samplesOf fragment) × (samplesOf fragment ≤ 8)
+
+-- a frame whose rows above b, each of w pixels, are there, and which numbers 1 to 3 let through
+pub record Room (w b : ℕ) (f : Frame) : Type 0 where
+  pub wide : w ≤ 1024
+  pub high : b ≤ 1024
+  pub there : b * w ≤ length (f .marks)
+  pub fit : Fit (length (f .marks)) f
+
+-- every pixel of a part of a row has all its samples
+abbrev pub Fulls : Edges → Range → Type 0
+Fulls e r = (x : ℕ) → r .start ≤ x → x < r .end → maskOf e x ≡ 255

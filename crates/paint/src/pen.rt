@@ -1,0 +1,64 @@
+// What does not turn on the pixel is worked out once a draw: the combiner resolved, the colour that it gives for the shade 1.0, the bytes of that, what pixels
+// with all samples do to a coverage, whether P is the pixel's colour, and whether the colour of a rectangle, and of a triangle, is that one and opaque.
+ghost use mathlib.Core.Path.{_≡_};
+ghost use mathlib.Core.Bool.{cond};
+ghost use Rattle.cell.specs.Own.{colorsOf};
+ghost use Rattle.paint.specs.Pen.{Inked, Mixed};
+use cell::Colors;
+use combiner::Combiner;
+use combiner::mixer::Mixer;
+use mode::RenderMode;
+use mode::Rgba;
+
+pub struct Pen {
+    pub mode: RenderMode,
+    pub combiner: Combiner,
+    pub mixer: Mixer,
+    pub color: Rgba,
+    pub own: Colors,
+    pub seven: bool,
+    pub sets: bool,
+    pub plain: bool,
+    pub opaque: bool,
+    pub flat: bool,
+}
+
+// The bytes of an opaque pixel's colour: its own, or the same for every pixel.
+pub fn bytes_of(plain: bool, own: Colors, color: Rgba) -> Colors
+    ensures { λ r. ⌜ r ≡ cond plain (colorsOf color) own ⌝ }
+{
+    if plain {
+        let red = num::byte_of(color.r);
+        let green = num::byte_of(color.g);
+        let blue = num::byte_of(color.b);
+        return Colors { red, green, blue };
+    }
+    own
+}
+
+pub fn pen_of(mode: RenderMode, combiner: Combiner) -> Pen
+    requires { ⌜ Mixed combiner ⌝ }
+    ensures { λ r. ⌜ r .mode ≡ mode ⌝ ∗ ⌜ r .combiner ≡ combiner ⌝ ∗ ⌜ Inked r ⌝ }
+{
+    let mixer = combiner.mixer();
+    let color = mixer.color(combiner::full_shade());
+    let own = cell::own_colors(mode, combiner, color);
+    let seven = cell::seven(mode);
+    let sets = cell::sets(mode);
+    let opaque = blender::opaque(mode, color.a);
+    let shaded = combiner.uses_shade();
+    let mux = blender::decode_mux(mode.blender_mux);
+    let plain = mux.p == 0;
+    Pen {
+        mode,
+        combiner,
+        mixer,
+        color,
+        own,
+        seven,
+        sets,
+        plain,
+        opaque,
+        flat: opaque & !shaded,
+    }
+}

@@ -1,0 +1,31 @@
+//! The comparison of the port's library with the Rust original: the interface, the original behind it, document 01's frame
+//! over the original, the generators, and what is compared. The program is main.rs.
+#![deny(unsafe_code)]
+
+pub mod calls;
+pub mod compare;
+pub mod compare_combiner;
+pub mod compare_frame;
+pub mod compare_numbers;
+pub mod compare_pack;
+pub mod compare_pixel;
+pub mod compare_raster;
+pub mod compare_runs;
+pub mod compare_selectors;
+pub mod draws;
+pub mod frame;
+pub mod inputs;
+#[allow(unsafe_code)]
+pub mod library;
+pub mod lists;
+#[cfg(feature = "mock")]
+#[allow(unsafe_code)]
+pub mod mock;
+#[cfg(feature = "mock")]
+#[allow(unsafe_code)]
+pub mod mock_draw;
+pub mod record;
+pub mod record_lists;
+pub mod rust;
+pub mod shapes;
+pub mod words;

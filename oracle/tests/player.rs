@@ -1,0 +1,204 @@
+//! The player's crate (player/) beside the frame of frame.rs: lists at random, mostly accepted, with every reason to turn a
+//! call away. After each call the answer and every byte must be the same.
+
+use oracle::draws::{self, Read, Step};
+use oracle::frame::{self, Branches};
+use oracle::inputs::Inputs;
+use oracle::library::{Mode, Rgba, Uniform};
+use oracle::lists::{Class, List};
+use writeback::{
+    AlphaCompare, BlendClass, CombinerUniform, Draw, Encoding, Frame, Geometry, Refusal, RenderMode, Scissor, Vertices,
+    Writer, ZMode,
+};
+
+const LISTS: u64 = 20_000;
+const SEED: u64 = 0x0064_0064;
+
+const BLEND_CLASSES: [BlendClass; 4] =
+    [BlendClass::Replace, BlendClass::BlendColor, BlendClass::AlphaOver, BlendClass::DualSrc];
+const Z_MODES: [ZMode; 4] = [ZMode::Opa, ZMode::Inter, ZMode::Xlu, ZMode::Decal];
+const ALPHA_COMPARES: [AlphaCompare; 3] = [AlphaCompare::None, AlphaCompare::Threshold, AlphaCompare::Dither];
+
+fn render_mode(mode: Mode) -> RenderMode {
+    RenderMode {
+        cycle_type: mode.cycle_type,
+        rgb_dither: mode.rgb_dither,
+        alpha_dither: mode.alpha_dither,
+        key_enabled: mode.key_enabled,
+        cvg_dst: mode.cvg_dst,
+        image_read: mode.image_read,
+        antialias: mode.antialias,
+        alpha_cvg_select: mode.alpha_cvg_select,
+        color_on_coverage: mode.color_on_coverage,
+        blender_mux: mode.blender_mux,
+        force_blend: mode.force_blend,
+        blend_class: BLEND_CLASSES[usize::from(mode.blend_class)],
+        fallback_class: BLEND_CLASSES[usize::from(mode.fallback_class)],
+        non_canonical_blend: mode.non_canonical_blend,
+        z_source_prim: mode.z_source_prim,
+        z_test: mode.z_test,
+        z_write: mode.z_write,
+        z_mode: Z_MODES[usize::from(mode.z_mode)],
+        fog: mode.fog,
+        alpha_compare: ALPHA_COMPARES[usize::from(mode.alpha_compare)],
+        cvg_x_alpha: mode.cvg_x_alpha,
+    }
+}
+
+fn combiner_uniform(uniform: Uniform) -> CombinerUniform {
+    let floats = |color: Rgba| [color.r, color.g, color.b, color.a];
+    CombinerUniform {
+        combine_l: uniform.combine_l,
+        combine_h: uniform.combine_h,
+        cycle_type: uniform.cycle_type,
+        tex_enable: uniform.tex_enable,
+        blender_mux: uniform.blender_mux,
+        force_blend: uniform.force_blend,
+        alpha_flags: uniform.alpha_flags,
+        alpha_threshold: uniform.alpha_threshold,
+        prim: floats(uniform.prim),
+        env: floats(uniform.env),
+        blend_color: floats(uniform.blend_color),
+        fog_color: floats(uniform.fog_color),
+        inv_tex_size: uniform.inv_tex_size,
+        inv_tex1_size: uniform.inv_tex1_size,
+        lod_params: uniform.lod_params,
+        inv_detail_size: uniform.inv_detail_size,
+        frame: uniform.frame,
+        is_rect: uniform.is_rect,
+        coverage_slot: uniform.coverage_slot,
+        fill_word: uniform.fill_word,
+        fill_siz: uniform.fill_siz,
+        primitive_depth: uniform.primitive_depth,
+        native_scale: uniform.native_scale,
+        raster: uniform.raster,
+    }
+}
+
+fn geometry(geometry: oracle::library::Geometry) -> Geometry {
+    let oracle::library::Geometry { kind, left, top, right, bottom } = geometry;
+    match kind {
+        0 => Geometry::Nothing,
+        1 => Geometry::Triangles,
+        _ => Geometry::Rectangle { left, top, right, bottom },
+    }
+}
+
+fn player_draw(frame: &mut Frame, draw: &draws::Draw) -> Result<u64, Refusal> {
+    let shape = &draw.shape;
+    let oracle::library::Scissor { left, top, width, height } = shape.scissor;
+    frame.draw(&Draw {
+        mode: render_mode(draw.mode),
+        uniform: combiner_uniform(draw.uniform),
+        cull: shape.cull,
+        scissor: Scissor { left, top, width, height },
+        geometry: geometry(shape.geometry),
+        vertices: &Vertices::from_parts(shape.vertices.clone(), shape.present.clone()),
+        indices: &shape.indices,
+    })
+}
+
+fn writer(read: &Read) -> Writer {
+    let encoding = if read.big_endian { Encoding::BigEndian } else { Encoding::Native };
+    Writer { fmt: read.fmt, siz: read.siz, rgb_dither: read.rgb_dither, encoding }
+}
+
+/// The number, and the pixels or the word.
+type Answered = (u32, u64);
+
+fn answered(answer: Result<u64, Refusal>) -> Answered {
+    answer.map_or_else(|refusal| (refusal.number(), 0), |value| (0, value))
+}
+
+fn on_player(frame: &mut Frame, step: &Step) -> Answered {
+    answered(match step {
+        Step::Draw(draw) => player_draw(frame, draw),
+        Step::Read(read) => frame.read_word(read.pixel, &writer(read)).map(|word| u16::from_le_bytes(word).into()),
+    })
+}
+
+fn on_original(frame: &mut draws::Frame, step: &Step) -> Answered {
+    match step {
+        Step::Draw(draw) => {
+            let answer = frame::draw(frame, draw, &mut Branches::default());
+            (answer.number, answer.pixels)
+        }
+        Step::Read(read) => {
+            let answer = frame::read_word(frame, read);
+            (answer.number, answer.value.into())
+        }
+    }
+}
+
+fn player_frame(frame: &draws::Frame) -> Frame {
+    let draws::Frame { width, height, colors, coverages, marks } = frame.clone();
+    Frame::from_parts(width, height, colors, coverages, marks)
+}
+
+fn same(player: &Frame, original: &draws::Frame) -> bool {
+    player.colors() == original.colors && player.coverages() == original.coverages && player.marks() == original.marks
+}
+
+/// The run of words from `first` on beside single reads of the original. No pixel past usize's end is in a frame: its number
+/// is that of the last pixel number.
+fn check_run(inputs: &mut Inputs, player: &Frame, original: &draws::Frame, read: &Read) -> u64 {
+    let count = inputs.below(40) as usize;
+    let near = original.marks.len() - (inputs.below(24) as usize).min(original.marks.len());
+    let first = inputs.pick(&[0, read.pixel, near, usize::MAX, usize::MAX - 7]);
+    let mut words = vec![[0xa5; 2]; count];
+    let mut numbers = vec![0xa5; count];
+    let run = player.read_words(first, &writer(read), &mut words, &mut numbers);
+    let expected: Vec<_> = (0..count)
+        .map(|i| frame::read_word(original, &Read { pixel: first.saturating_add(i), ..*read }))
+        .map(|answer| (answer.number, answer.value))
+        .collect();
+    let ours = words.iter().zip(&numbers).map(|(word, number)| (*number, u16::from_le_bytes(*word)));
+    let ours: Vec<_> = ours.map(|(number, word)| (u32::from(number), u32::from(word))).collect();
+    assert_eq!(ours, expected, "run from {first}");
+    let read = expected.iter().filter(|(number, _)| *number == 0).count() as u64;
+    assert_eq!(run, Ok(read));
+    read
+}
+
+/// How often each number came.
+#[derive(Default)]
+struct Counts {
+    draws: [u64; 11],
+    reads: [u64; 11],
+    words: u64,
+}
+
+fn check(inputs: &mut Inputs, list: &List, counts: &mut Counts) {
+    let mut original = list.frame.clone();
+    let mut player = player_frame(&original);
+    for step in &list.steps {
+        let before = original.text();
+        let answers = (on_player(&mut player, step), on_original(&mut original, step));
+        assert_eq!(answers.0, answers.1, "player and Rust differ: {} on {before}", step.text());
+        assert!(same(&player, &original), "the frames differ after {} on {before}", step.text());
+        let number = answers.1 .0 as usize;
+        match step {
+            Step::Draw(_) => counts.draws[number] += 1,
+            Step::Read(read) => {
+                counts.reads[number] += 1;
+                counts.words += check_run(inputs, &player, &original, read);
+            }
+        }
+    }
+}
+
+#[test]
+fn lists_at_random() {
+    let mut inputs = Inputs::new(SEED);
+    let mut counts = Counts::default();
+    for number in 0..LISTS {
+        let class = if number % 4 == 0 { Class::Any } else { Class::Small };
+        let list = List::at_random(&mut inputs, class);
+        check(&mut inputs, &list, &mut counts);
+    }
+    let Counts { draws, reads, words } = counts;
+    println!("{LISTS} lists; draws by number {draws:?}, reads by number {reads:?}, {words} words in runs");
+    assert!(draws[..=7].iter().all(|count| *count > 100), "{draws:?}");
+    assert!([0, 1, 2, 3, 8, 9, 10].iter().all(|number| reads[*number] > 100), "{reads:?}");
+    assert!(words > 10_000, "{words}");
+}

@@ -1,0 +1,156 @@
+//! The frame: which colours and coverages are known, and the calls on it.
+
+use crate::{ffi, Draw, Refusal, Writer};
+
+/// Set where a pixel's colour is known.
+const COLOR: u8 = 1;
+/// Set where a pixel's coverage is known.
+const COVERAGE: u8 = 2;
+
+/// Width times height pixels. Each has three colour bytes, a coverage and a mark, which says whether the colour (1) and the
+/// coverage (2) are known. A byte that is not marked known takes part in no answer.
+#[derive(Clone, Debug, PartialEq, Eq)]
+pub struct Frame {
+    width: u32,
+    height: u32,
+    colors: Vec<u8>,
+    coverages: Vec<u8>,
+    marks: Vec<u8>,
+}
+
+impl Frame {
+    /// A frame of which nothing is known. It is turned away with number 1 where a size lies outside 1 to 1,024.
+    pub fn new(width: u32, height: u32) -> Result<Frame, Refusal> {
+        if ![width, height].iter().all(|size| (1..=1024).contains(size)) {
+            return Err(Refusal::SIZES);
+        }
+        let pixels = (width * height) as usize;
+        Ok(Frame::from_parts(width, height, vec![0; 3 * pixels], vec![0; pixels], vec![0; pixels]))
+    }
+
+    /// A frame of any parts. The library looks at them on every call, and turns wrong ones away with numbers 1 to 3.
+    pub fn from_parts(width: u32, height: u32, colors: Vec<u8>, coverages: Vec<u8>, marks: Vec<u8>) -> Frame {
+        Frame { width, height, colors, coverages, marks }
+    }
+
+    /// The colour bytes, the coverages and the marks by themselves.
+    pub fn into_parts(self) -> (Vec<u8>, Vec<u8>, Vec<u8>) {
+        (self.colors, self.coverages, self.marks)
+    }
+
+    /// In pixels.
+    pub fn width(&self) -> u32 {
+        self.width
+    }
+
+    /// In pixels.
+    pub fn height(&self) -> u32 {
+        self.height
+    }
+
+    /// Three bytes for each pixel.
+    pub fn colors(&self) -> &[u8] {
+        &self.colors
+    }
+
+    /// One byte for each pixel.
+    pub fn coverages(&self) -> &[u8] {
+        &self.coverages
+    }
+
+    /// One byte for each pixel.
+    pub fn marks(&self) -> &[u8] {
+        &self.marks
+    }
+
+    /// The colour bytes, the coverages and the marks, to be written by others than the draws.
+    pub fn parts_mut(&mut self) -> (&mut [u8], &mut [u8], &mut [u8]) {
+        (&mut self.colors, &mut self.coverages, &mut self.marks)
+    }
+
+    fn marked(&self, pixel: usize, bit: u8) -> bool {
+        self.marks.get(pixel).is_some_and(|mark| mark & bit != 0)
+    }
+
+    /// Red, green and blue of a pixel, if they are known.
+    pub fn color(&self, pixel: usize) -> Option<[u8; 3]> {
+        let known = self.marked(pixel, COLOR);
+        let bytes = self.colors.chunks_exact(3).nth(pixel).filter(|_| known)?;
+        Some([bytes[0], bytes[1], bytes[2]])
+    }
+
+    /// The coverage of a pixel, 0 to 7 for one to eight samples, if it is known.
+    pub fn coverage(&self, pixel: usize) -> Option<u8> {
+        let known = self.marked(pixel, COVERAGE);
+        self.coverages.get(pixel).copied().filter(|_| known)
+    }
+
+    /// Sets what is known of a pixel, as where the game wrote to it. It is turned away with number 8 where there is no such
+    /// pixel, and with number 3 where the coverage is above 7.
+    pub fn set(&mut self, pixel: usize, color: Option<[u8; 3]>, coverage: Option<u8>) -> Result<(), Refusal> {
+        let bytes = self.colors.chunks_exact_mut(3).nth(pixel);
+        let parts = (bytes, self.coverages.get_mut(pixel), self.marks.get_mut(pixel));
+        let (Some(bytes), Some(covered), Some(mark)) = parts else {
+            return Err(Refusal::PIXEL);
+        };
+        if coverage.is_some_and(|coverage| coverage > 7) {
+            return Err(Refusal::MARKS);
+        }
+        *mark = 0;
+        if let Some(color) = color {
+            bytes.copy_from_slice(&color);
+            *mark |= COLOR;
+        }
+        if let Some(coverage) = coverage {
+            *covered = coverage;
+            *mark |= COVERAGE;
+        }
+        Ok(())
+    }
+
+    /// Draws every triangle, or the rectangle, and answers how many pixels were emitted, counted with repeats. It is turned
+    /// away with numbers 1 to 7, and then changes nothing.
+    pub fn draw(&mut self, draw: &Draw) -> Result<u64, Refusal> {
+        let Frame { width, height, colors, coverages, marks } = self;
+        ffi::draw(ffi::FrameMut { width: *width, height: *height, colors, coverages, marks }, draw)
+    }
+
+    fn lent(&self) -> ffi::Frame<'_> {
+        let Frame { width, height, colors, coverages, marks } = self;
+        ffi::Frame { width: *width, height: *height, colors, coverages, marks }
+    }
+
+    /// The two bytes of a pixel's word, as the console's memory would hold them. It is turned away with numbers 1 to 3 and 8
+    /// to 10.
+    ///
+    /// Every call looks at the whole frame for number 3: [`Frame::read_words`] reads many pixels for that price.
+    pub fn read_word(&self, pixel: usize, writer: &Writer) -> Result<[u8; 2], Refusal> {
+        ffi::read_word(self.lent(), pixel, writer)
+    }
+
+    /// The words of the pixels `first`, `first + 1`, .. in turn, as many as there are `numbers`, and answers how many could be
+    /// read. A pixel that [`Frame::read_word`] turns away has its number in `numbers` (see [`Refusal::from_number`]) and a word
+    /// of zeros; the others have number 0.
+    ///
+    /// It is turned away itself with number 19 where there are not as many words as numbers, and then changes nothing.
+    pub fn read_words(
+        &self,
+        first: usize,
+        writer: &Writer,
+        words: &mut [[u8; 2]],
+        numbers: &mut [u8],
+    ) -> Result<u64, Refusal> {
+        ffi::read_words(self.lent(), first, writer, words.as_flattened_mut(), numbers)
+    }
+
+    /// What [`Frame::read_word`] answers for every pixel that has a mark, in turn.
+    pub fn snapshot(&self, writer: &Writer) -> Vec<Result<[u8; 2], Refusal>> {
+        let mut words = vec![[0; 2]; self.marks.len()];
+        let mut numbers = vec![0; self.marks.len()];
+        if let Err(refusal) = self.read_words(0, writer, &mut words, &mut numbers) {
+            return vec![Err(refusal); words.len()];
+        }
+        let answer = |(word, number): ([u8; 2], u8)| Refusal::from_number(number.into()).map_or(Ok(word), Err);
+        words.into_iter().zip(numbers).map(answer).collect()
+    }
+}
