@@ -44,10 +44,15 @@ pub struct Rgba8 {
 // Two bytes of memory, the lower address first.
 pub struct Bytes2(pub u8, pub u8);
 
-// Dither thresholds of four rows of four pixels, four bits each, the first lowest. Noise has no reproducible guest RNG and takes the magic square too.
-const MAGIC: u64 = 0x0617_4253_3524_7160;
+// Dither thresholds of four rows of four pixels. Noise has no reproducible guest RNG and takes the magic square too.
+const MAGIC: [u8; 16] = [0, 6, 1, 7, 4, 2, 5, 3, 3, 5, 2, 4, 7, 1, 6, 0];
 
-const BAYER: u64 = 0x2637_6273_1504_5140;
+const BAYER: [u8; 16] = [0, 4, 1, 5, 4, 0, 5, 1, 3, 7, 2, 6, 7, 3, 6, 2];
+
+// The same, four bits each, the first lowest: a run of words takes an entry without building a table for each pixel.
+const MAGIC_WORD: u64 = 0x0617_4253_3524_7160;
+
+const BAYER_WORD: u64 = 0x2637_6273_1504_5140;
 
 // The largest depth of eighteen bits.
 const DEEPEST: u32 = 0x3ffff;
@@ -79,6 +84,18 @@ pub fn pack_color(rgba: Rgba8, coverage: u8, dither: u8) -> u16
     (r << 11) | (g << 6) | (b << 1) | top
 }
 
+// The pixel's threshold by the dither mode: 0 and 2 the magic square, 1 Bayer's, else none is rounded up.
+pub fn threshold(rgb_dither: u8, x: usize, y: usize) -> u8
+    ensures { λ r. ⌜ r ≡ thresholdOf «rgb_dither» x y ⌝ }
+{
+    let index = (y & 3) * 4 + (x & 3);
+    match rgb_dither {
+        0 | 2 => MAGIC[index],
+        1 => BAYER[index],
+        _ => 7,
+    }
+}
+
 // An entry of a square.
 fn entry(square: u64, index: u32) -> u8
     requires { ⌜ index < 16 ⌝ }
@@ -89,15 +106,15 @@ fn entry(square: u64, index: u32) -> u8
     low as u8
 }
 
-// The pixel's threshold by the dither mode: 0 and 2 the magic square, 1 Bayer's, else none is rounded up.
-pub fn threshold(rgb_dither: u8, x: usize, y: usize) -> u8
+// `threshold`, from the words.
+pub fn word_threshold(rgb_dither: u8, x: usize, y: usize) -> u8
     ensures { λ r. ⌜ r ≡ thresholdOf «rgb_dither» x y ⌝ }
 {
     let place = (y & 3) * 4 + (x & 3);
     let index = place as u32;
     match rgb_dither {
-        0 | 2 => entry(MAGIC, index),
-        1 => entry(BAYER, index),
+        0 | 2 => entry(MAGIC_WORD, index),
+        1 => entry(BAYER_WORD, index),
         _ => 7,
     }
 }

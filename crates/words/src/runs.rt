@@ -58,7 +58,7 @@ fn read_halfword(
     let b = colors[blue_at];
     let coverage = coverages[pixel];
     let rgba = Rgba8 { r, g, b, a: 0 };
-    let threshold = pack::threshold(rgb_dither, place.x, place.y);
+    let threshold = pack::word_threshold(rgb_dither, place.x, place.y);
     let word = pack::pack_color(rgba, coverage, threshold);
     encoding.encode_u16(word)
 }

@@ -8,47 +8,37 @@ use lib.Bits.{bitAnd, and-mask, mask-lt}
 use lib.ListN.{getD}
 use borrow.Author.Tests.{ne-eqb}
 use Rattle.pack.specs.Dither.{magic, bayer, entryAt, thresholdOf}
-use Rattle.pack.proofs.Squares.{magic-entry, bayer-entry}
 use Rattle.pack.proofs.threshold.Statement.{statement}
 use Rattle.pack.proofs.threshold.Tie as tie
 
 place : (x y : ℕ) → bitAnd y 3 * 4 + bitAnd x 3 ≡ y % 4 * 4 + x % 4
 place x y = λ i. and-mask y 2 i * 4 + and-mask x 2 i
 
-mul-place : tie.Need-mul-place
-mul-place c = record { fits = omega (arith, mask-lt (c .args .x) 2, mask-lt (c .args .y) 2) }
+mul-index : tie.Need-mul-index
+mul-index c = record { fits = omega (arith, mask-lt (c .args .x) 2, mask-lt (c .args .y) 2) }
 
-add-place : tie.Need-add-place
-add-place c = record { fits = omega (arith, mask-lt (c .args .x) 2, mask-lt (c .args .y) 2) }
+add-index : tie.Need-add-index
+add-index c = record { fits = omega (arith, mask-lt (c .args .x) 2, mask-lt (c .args .y) 2) }
 
-cast-index : tie.Need-cast-index
-cast-index c = record { fits = omega (arith, mask-lt (c .args .x) 2, mask-lt (c .args .y) 2) }
+array-read-result : tie.Need-array-read-result
+array-read-result c = omega (arith, mask-lt (c .before .args .x) 2, mask-lt (c .before .args .y) 2)
 
-entry-requires : tie.Need-entry-requires
-entry-requires c κs = omega (arith, mask-lt (c .before .args .x) 2, mask-lt (c .before .args .y) 2)
-
-entry-requires-2 : tie.Need-entry-requires-2
-entry-requires-2 c κs = omega (arith, mask-lt (c .before .args .x) 2, mask-lt (c .before .args .y) 2)
+array-read-result-2 : tie.Need-array-read-result-2
+array-read-result-2 c = omega (arith, mask-lt (c .before .args .x) 2, mask-lt (c .before .args .y) 2)
 
 -- a mode that is named has its number's threshold
 returns : tie.Need-returns
 unfolding thresholdOf
 returns c =
-    let s = c .before .before .args in
+    let s = c .before .args in
     let at : (n : ℕ) → s .rgb-dither ≡ n → thresholdOf n (s .x) (s .y) ≡ thresholdOf (s .rgb-dither) (s .x) (s .y) = λ n e. ap (λ (d : ℕ). thresholdOf d (s .x) (s .y)) (sym e) in
-    c .entry .ensures
-    ∙ magic-entry _ (omega (arith, mask-lt (s .x) 2, mask-lt (s .y) 2))
-    ∙ ap (λ (k : ℕ). getD magic k 0) (place (s .x) (s .y))
-    ∙ ⊎-elim (at 0) (at 2) (c .before .match .keys1)
+    ap (λ (k : ℕ). getD magic k 0) (place (s .x) (s .y)) ∙ ⊎-elim (at 0) (at 2) (c .match .keys1)
 
 returns-2 : tie.Need-returns-2
 unfolding thresholdOf
 returns-2 c =
-    let s = c .before .before .args in
-    c .entry2 .ensures
-    ∙ bayer-entry _ (omega (arith, mask-lt (s .x) 2, mask-lt (s .y) 2))
-    ∙ ap (λ (k : ℕ). getD bayer k 0) (place (s .x) (s .y))
-    ∙ ap (λ (d : ℕ). thresholdOf d (s .x) (s .y)) (sym (c .before .match .keys2))
+    let s = c .before .args in
+    ap (λ (k : ℕ). getD bayer k 0) (place (s .x) (s .y)) ∙ ap (λ (d : ℕ). thresholdOf d (s .x) (s .y)) (sym (c .match .keys2))
 
 returns-3 : tie.Need-returns-3
 unfolding thresholdOf
@@ -64,11 +54,10 @@ pub threshold-spec : {M : Type 1} → statement M
 threshold-spec =
     tie.close
     (tie.spec
-    mul-place
-    add-place
-    cast-index
-    entry-requires
-    entry-requires-2
+    mul-index
+    add-index
+    array-read-result
+    array-read-result-2
     returns
     returns-2
     returns-3)

@@ -24,8 +24,8 @@ shared-slice-read-b c = search needs
 shared-slice-read-coverage : tie.Need-shared-slice-read-coverage
 shared-slice-read-coverage c = search needs
 
-threshold-requires : tie.Need-threshold-requires
-threshold-requires c κs = search needs
+word-threshold-requires : tie.Need-word-threshold-requires
+word-threshold-requires c κs = search needs
 
 pack-color-requires : tie.Need-pack-color-requires
 pack-color-requires c κs = search needs
@@ -47,7 +47,7 @@ read-halfword-spec =
     shared-slice-read-g
     shared-slice-read-b
     shared-slice-read-coverage
-    threshold-requires
+    word-threshold-requires
     pack-color-requires
     encode-u16-requires
     returns)
