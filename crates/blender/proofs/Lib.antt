@@ -3,3 +3,4 @@ pub mod Picked
 pub mod Range
 pub mod KnownCoverage
 pub mod Solid
+pub mod Layers

@@ -17,7 +17,7 @@ use Rattle.blender.specs.Coverage.{overflows, blends}
 use Rattle.blender.specs.Known.{reject, alone, missing, anyCoverage, whereUnknown, colorKnown, opaqueOf}
 use Rattle.blender.specs.Blend.{sourceOf, factorA, factorB, mixedOf, bytesOf, blendOf, ownOf}
 
-never : {A : Type 0} → false ≡ true → A
+pub never : {A : Type 0} → false ≡ true → A
 never p = let z : _≡_ {A = ℕ} 0 1 = ap (λ (t : Bool). cond t 1 0) p in absurd (omega arith)
 
 -- what is said of a pixel that is opaque
@@ -66,24 +66,28 @@ module _ {mode : RenderMode} {alpha : Float} (o : Opaque mode alpha) where
       λ i. cond (o .own i && not memory) false (cond (o .alone n c i) true (cond (missing (muxOf (mode .«blender_mux») .m) memory) false (whereUnknown c (anyCoverage mode))))
 
 -- P does not turn on the memory's colour
-own-source : (k : ℕ) (combiner : Combiner) (rgba memory : Rgba) → eqb k 1 ≡ false → sourceOf k combiner rgba memory ≡ sourceOf k combiner rgba rgba
+pub own-source : (k : ℕ) (combiner : Combiner) (rgba memory : Rgba) → eqb k 1 ≡ false → sourceOf k combiner rgba memory ≡ sourceOf k combiner rgba rgba
 own-source k combiner rgba memory e =
     let rest = cond (eqb k 2) (combiner .blend) (combiner .fog) in
     (λ i. cond (eqb k 0) rgba (cond (e i) memory rest)) ∙ sym (λ i. cond (eqb k 0) rgba (cond (e i) rgba rest))
 
-module _ (mode : RenderMode) (combiner : Combiner) (rgba memory : Rgba) (shade : Float) (n c : ℕ) (o : Opaque mode (rgba .a)) where
-  -- and its bytes are P's
-  pub opaque-blend :
+module _
+    (mode : RenderMode) (combiner : Combiner) (rgba memory : Rgba) (shade : Float) (n c : ℕ)
+    (own : eqb (muxOf (mode .«blender_mux») .p) 1 ≡ false)
+    (alone : alone mode (rgba .a) n (Known c) ≡ true) where
+  -- and the bytes of a pixel that stands alone are P's
+  pub alone-blend :
       let bytes = blendOf mode combiner rgba memory shade n c in
-      let own = ownOf mode combiner rgba in
-      (bytes .r ≡ byteOf (own .r)) × ((bytes .g ≡ byteOf (own .g)) × (bytes .b ≡ byteOf (own .b)))
+      let p = ownOf mode combiner rgba in
+      (bytes .r ≡ byteOf (p .r)) × ((bytes .g ≡ byteOf (p .g)) × (bytes .b ≡ byteOf (p .b)))
   unfolding blendOf bytesOf mixedOf ownOf
-  opaque-blend =
+  alone-blend =
       let x = muxOf (mode .«blender_mux») in
       let a = factorA (x .a) (rgba .a) (combiner .fog .a) shade in
       let m = sourceOf (x .m) combiner rgba memory in
       let b = factorB (x .b) a c in
       let f = mode .«force_blend» in
-      let p = own-source (x .p) combiner rgba memory (o .own) in
-      let t = o .alone n (Known c) in
-      (λ i. byteOf (mixedOf (t i) f (p i .r) a (m .r) b), (λ i. byteOf (mixedOf (t i) f (p i .g) a (m .g) b), λ i. byteOf (mixedOf (t i) f (p i .b) a (m .b) b)))
+      let p = own-source (x .p) combiner rgba memory own in (
+        λ i. byteOf (mixedOf (alone i) f (p i .r) a (m .r) b),
+        (λ i. byteOf (mixedOf (alone i) f (p i .g) a (m .g) b), λ i. byteOf (mixedOf (alone i) f (p i .b) a (m .b) b)),
+      )

@@ -3,3 +3,4 @@ pub mod Mux
 pub mod Coverage
 pub mod Known
 pub mod Blend
+pub mod Layer

@@ -9,6 +9,8 @@ ghost use Rattle.blender.specs.Coverage.{overflows, blends, clampOf, des
 ghost use Rattle.blender.specs.Known.{reject, alone, missing, anyCoverage, colorKnown, opaqueOf};
 ghost use Rattle.blender.specs.Blend.{sourceOf, factorA, factorB, divisorOf, mixedOf, bytesOf, blendOf, ownOf};
 
+pub mod layer; // pixels of one colour
+
 // A pixel's coverage in memory, 0 to 7 for 1 to 8 samples, or that it is not known.
 pub enum Coverage {
     Unknown,
@@ -195,15 +197,27 @@ pub fn color_known(
     }
 }
 
+// The colour itself, channel by channel: which of several colours it is, is then told by jumps, and no pixel waits for a copy in memory.
+fn copy(x: Rgba) -> Rgba
+    ensures { λ r. ⌜ r ≡ x ⌝ }
+{
+    Rgba {
+        r: x.r,
+        g: x.g,
+        b: x.b,
+        a: x.a,
+    }
+}
+
 // The colour that P or M names.
 fn source(selector: u32, combiner: Combiner, rgba: Rgba, memory: Rgba) -> Rgba
     ensures { λ r. ⌜ r ≡ sourceOf selector combiner rgba memory ⌝ }
 {
     match selector {
-        0 => rgba,
-        1 => memory,
-        2 => combiner.blend,
-        _ => combiner.fog,
+        0 => copy(rgba),
+        1 => copy(memory),
+        2 => copy(combiner.blend),
+        _ => copy(combiner.fog),
     }
 }
 

@@ -4,9 +4,10 @@ ghost use mathlib.Core.Path.{_≡_};
 ghost use mathlib.Core.Bool.{cond};
 ghost use Prim.Native.Nat.{_≤_};
 ghost use Rattle.cell.specs.Marks.{colorMarked, coverageMarked, coverageOf, unknown, markOf};
-ghost use Rattle.cell.specs.Own.{ownColors, coverCell, sevenOf, setsOf};
+ghost use Rattle.cell.specs.Own.{ownColors, overByte, overColors, coverCell, sevenOf, setsOf};
 ghost use Rattle.cell.specs.Rules.{ruleF2, verdictOf, unit, memoryOf, orZero, ruleF3, ruleF4, freshCoverage, ruleF5, coverageByte, cellStep};
 use blender::Coverage;
+use blender::layer::Layer;
 use combiner::Combiner;
 use mode::RenderMode;
 use mode::Rgba;
@@ -245,6 +246,24 @@ pub fn own_colors(mode: RenderMode, combiner: Combiner, color: Rgba) -> Colors
         red: num::byte_of(own.r),
         green: num::byte_of(own.g),
         blue: num::byte_of(own.b),
+    }
+}
+
+// One channel of a layer over the memory's.
+fn over(part: f32, share: f32, byte: u8) -> u8
+    ensures { λ r. ⌜ r ≡ overByte part share byte ⌝ }
+{
+    num::byte_of(part + unit_of(byte) * share)
+}
+
+// The bytes of a layered pixel over the memory's.
+pub fn over_colors(layer: Layer, memory: Colors) -> Colors
+    ensures { λ r. ⌜ r ≡ overColors layer memory ⌝ }
+{
+    Colors {
+        red: over(layer.r, layer.share, memory.red),
+        green: over(layer.g, layer.share, memory.green),
+        blue: over(layer.b, layer.share, memory.blue),
     }
 }
 

@@ -67,10 +67,10 @@ colored-rectangle pen c sides w y x ec eb =
     let m = (λ i. bitAnd (ec i) (eb i)) ∙ sym (rect-and sides x y) in
     λ i. emits (cond (shown (pen .mode .antialias) (m i)) (covered (m i) c (fullShade .a)) Empty) (y * w + x)
 
--- the pen's own colour, where it is opaque
-module _ (pen : Pen) {c : Color} (t : Tinted pen c) (h : pen .opaque ≡ true) where
+-- the pen's own colour
+module _ (pen : Pen) {c : Color} (t : Tinted pen c) where
   pub own-color : c ≡ colorValue (pen .color)
-  own-color = t .color ∙ t .inked .opaque h .1
+  own-color = t .color ∙ t .inked .color
 
   pub own-colored : (mask p : ℕ) → ownPixel pen mask p (fullShade .a) ≡ emits (coloredFragment (pen .mode .antialias) c mask) p
   unfolding coloredFragment

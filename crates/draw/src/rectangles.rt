@@ -40,7 +40,7 @@ fn draw_pixel(
     requires { ⌜ (x < width) × Tinted pen color ⌝ ∗ ⌜ Room width (y + 1) (frameOf (now colors) (now coverages) (now marks)) ⌝ }
     ensures { λ r. ⌜ Drew (pen .mode) (pen .combiner) (length (now (marks .entry))) (coloredPixel pen color mask width y x) (frameOf (now (colors .entry)) (now (coverages .entry)) (now (marks .entry))) (frameOf (now (colors .exit)) (now (coverages .exit)) (now (marks .exit))) r ⌝ }
 {
-    if pen.opaque {
+    if pen.even {
         return own_pixel(colors, coverages, marks, pen, mask, width, y, x);
     }
     let fragment = raster::colored_pixel(pen.mode.antialias, color, mask);
@@ -82,7 +82,7 @@ fn draw_span(
     n
 }
 
-// A row of which every sample lies between the top and bottom sides, of opaque pixels: its full columns are filled.
+// A row of which every sample lies between the top and bottom sides, of an even pen: its full columns are filled.
 fn own_row(
     colors: &mut [u8],
     coverages: &mut [u8],
@@ -96,7 +96,7 @@ fn own_row(
     right: u32,
     y: u32,
 ) -> u64
-    requires { ⌜ (right ≤ width) × Tinted pen color × (pen .opaque ≡ true) × (255 ≡ bitsOfRow sides y) ⌝ ∗ ⌜ Inner (FullColumn sides) left right full ⌝ ∗ ⌜ Room width (y + 1) (frameOf (now colors) (now coverages) (now marks)) ⌝ }
+    requires { ⌜ (right ≤ width) × Tinted pen color × (pen .even ≡ true) × (255 ≡ bitsOfRow sides y) ⌝ ∗ ⌜ Inner (FullColumn sides) left right full ⌝ ∗ ⌜ Room width (y + 1) (frameOf (now colors) (now coverages) (now marks)) ⌝ }
     ensures { λ r. ⌜ Drew (pen .mode) (pen .combiner) (length (now (marks .entry))) (rectangleRow (pen .mode) color sides width left right y) (frameOf (now (colors .entry)) (now (coverages .entry)) (now (marks .entry))) (frameOf (now (colors .exit)) (now (coverages .exit)) (now (marks .exit))) r ⌝ }
 {
     let from = full.start;
@@ -149,7 +149,7 @@ fn draw_row(
     ensures { λ r. ⌜ Drew (pen .mode) (pen .combiner) (length (now (marks .entry))) (rectangleRow (pen .mode) color sides width left right y) (frameOf (now (colors .entry)) (now (coverages .entry)) (now (marks .entry))) (frameOf (now (colors .exit)) (now (coverages .exit)) (now (marks .exit))) r ⌝ }
 {
     let bits = sides.row_bits(y);
-    if pen.opaque {
+    if pen.even {
         if bits == ALL {
             return own_row(
                 colors,

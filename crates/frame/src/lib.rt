@@ -10,7 +10,7 @@ use cell::Cell;
 pub mod checks; // numbers 1 to 3
 
 // A byte, if it is known; else 0, and it is not read.
-fn known_byte(bytes: &[u8], at: usize, known: bool) -> u8
+pub fn known_byte(bytes: &[u8], at: usize, known: bool) -> u8
     requires { ⌜ at < length (now bytes) ⌝ }
     ensures { λ r. ⌜ r ≡ cond known (getD (now (bytes .entry)) at 0) 0 ⌝ }
 {

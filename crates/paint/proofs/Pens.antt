@@ -17,23 +17,27 @@ use Rattle.combiner.proofs.Flat.{flat-color}
 use Rattle.blender.specs.declared.Mux.{Mux}
 use Rattle.blender.specs.Mux.{muxOf, pick}
 use Rattle.blender.specs.Blend.{sourceOf, ownOf}
+use Rattle.blender.specs.declared.layer.Layer.{Layer}
 use Rattle.blender.specs.Known.{opaqueOf}
+use Rattle.blender.specs.Layer.{layeredOf, steadyOf, layerOf}
 use Rattle.blender.proofs.Solid.{opaque}
+use Rattle.blender.proofs.Layers.{layered, steady}
 use Rattle.cell.specs.declared.Colors.{Colors}
 use Rattle.cell.specs.Own.{colorsOf, ownColors, sevenOf, setsOf}
 use Rattle.cell.proofs.Alike.{never}
+use Rattle.cell.proofs.Own.{unshaded-step}
 use Rattle.vertex.specs.declared.row.ShadeRow.{ShadeRow}
 use Rattle.vertex.specs.Row.{shadeOn}
 use Rattle.edges.specs.Sample.{countOf}
 use Rattle.edges.proofs.Ones.{count-range}
 use Rattle.raster.specs.declared.Fragment.the-variants.{Empty}
 use Rattle.raster.specs.Emitted.{Emit, shown, covered, emits, mixedFragment}
-use Rattle.frame.specs.Frame.{Frame, Fit}
+use Rattle.frame.specs.Frame.{Frame, Fit, cellAt, putCell}
 use Rattle.paint.specs.declared.pen.Pen.{Pen}
 use Rattle.paint.specs.Steps.{Drew, stepFrame}
 use Rattle.paint.specs.Pixel.{emitOf}
 use Rattle.paint.proofs.Fits.{fit-step}
-use Rattle.paint.specs.Pen.{Inked, Mixed, Solid, ownPixel, shadedPixel}
+use Rattle.paint.specs.Pen.{Inked, Mixed, Even, Own, ownPixel, shadedPixel}
 
 -- two tests that both hold
 first : (a b : Bool) → (a && b) ≡ true → a ≡ true
@@ -48,21 +52,40 @@ off : (a : Bool) → not a ≡ true → a ≡ false
 off true h = sym h
 off false h = refl
 
-module _ (mode : RenderMode) (k : Combiner) (h : Mixed k) {x : Mixer} {u : Rgba} {c : Rgba} {own : Colors} (seven sets alone shaded : Bool) {mux : Mux} where
+module _ (mode : RenderMode) (k : Combiner) (h : Mixed k) {x : Mixer} {u : Rgba} {c : Rgba} {own : Colors} {over : Layer} (seven sets alone laid steady shaded : Bool) {mux : Mux} where
   pub inked :
-      x ≡ mixerOf k → u ≡ fullShade → c ≡ mixedBy x u → own ≡ ownColors mode k c → seven ≡ sevenOf mode → sets ≡ setsOf mode
-      → alone ≡ opaqueOf mode (c .a) → shaded ≡ shadeUsed k → mux ≡ muxOf (mode .«blender_mux»)
-      → Inked (record { mode = mode; combiner = k; mixer = x; color = c; own = own; seven = seven; sets = sets; plain = eqb (mux .p) 0; opaque = alone; flat = alone && not shaded })
-  inked ex eu ec eo e7 es ea eh em =
+      x ≡ mixerOf k → u ≡ fullShade → c ≡ mixedBy x u → own ≡ ownColors mode k c → seven ≡ sevenOf mode → sets ≡ setsOf mode → over ≡ layerOf mode k c
+      → alone ≡ opaqueOf mode (c .a) → laid ≡ layeredOf mode (c .a) → steady ≡ steadyOf mode → shaded ≡ shadeUsed k → mux ≡ muxOf (mode .«blender_mux»)
+      → Inked
+      (record {
+        mode = mode;
+        combiner = k;
+        mixer = x;
+        color = c;
+        own = own;
+        seven = seven;
+        sets = sets;
+        plain = eqb (mux .p) 0;
+        layer = over;
+        opaque = alone;
+        layered = laid;
+        even = laid || (steady || alone);
+        flat = (laid || (steady || alone)) && not shaded;
+      })
+  inked ex eu ec eo e7 es ev ea el et eh em =
       record {
         mixer = ex;
         own = eo;
         seven = e7;
         sets = es;
         plain = λ i. eqb (em i .p) 0;
-        opaque = λ o. (sym ea ∙ o, colored);
+        color = colored;
+        layer = ev;
+        opaque = ea;
+        layered = el;
+        even = λ i. laid || (et i || alone);
         flat = λ o.
-            (sym ea ∙ first alone (not shaded) o, λ s. flat-color k s fullShade (sym eh ∙ off shaded (second alone (not shaded) o)) ∙ colored);
+            (first (laid || (steady || alone)) (not shaded) o, λ s. flat-color k s fullShade (sym eh ∙ off shaded (second (laid || (steady || alone)) (not shaded) o)) ∙ colored);
       }
     where
       colored : colorOf k fullShade ≡ colorValue c
@@ -76,9 +99,7 @@ own-plain k combiner a b h false e =
     let rest = cond (eqb k 2) (combiner .blend) (combiner .fog) in
     (λ i. cond (e i) a (cond (h i) a rest)) ∙ sym (λ i. cond (e i) b (cond (h i) b rest))
 
-pub own-bytes :
-    (pen : Pen) → Inked pen → (color : Rgba) → opaqueOf (pen .mode) (color .a) ≡ true
-    → cond (pen .plain) (colorsOf color) (pen .own) ≡ ownColors (pen .mode) (pen .combiner) color
+pub own-bytes : (pen : Pen) → Inked pen → Own (pen .mode) (pen .combiner) (pen .plain) (pen .own)
 unfolding ownColors ownOf
 own-bytes pen i color o =
     let k = muxOf (pen .mode .«blender_mux») .p in
@@ -89,12 +110,24 @@ own-bytes pen i color o =
     chosen true = refl
     chosen false = sym (i .own)
 
-module _ (pen : Pen) (i : Inked pen) where
-  pub solid-rectangle : pen .opaque ≡ true → Solid pen
-  solid-rectangle h = record { own = i .own; opaque = i .opaque h .0 }
+pub even-triangle : (pen : Pen) → Inked pen → pen .flat ≡ true → Even pen
+even-triangle pen i h = record { inked = i; even = i .flat h .0 }
 
-  pub solid-triangle : pen .flat ≡ true → Solid pen
-  solid-triangle h = record { own = i .own; opaque = i .flat h .0 }
+-- the step of a pixel of such a pen that is not opaque does not turn on its shade's alpha
+module _ (pen : Pen) (e : Even pen) (o : pen .opaque ≡ false) where
+  even-unshaded : eqb (muxOf (pen .mode .«blender_mux») .a) 2 ≡ false
+  even-unshaded = go (pen .layered) refl (steadyOf (pen .mode)) refl
+    where
+      go : (l : Bool) → pen .layered ≡ l → (t : Bool) → steadyOf (pen .mode) ≡ t → eqb (muxOf (pen .mode .«blender_mux») .a) 2 ≡ false
+      go true el t et = layered (pen .mode) (pen .color .a) (sym (e .inked .layered) ∙ el) .shade
+      go false el true et = steady (pen .mode) et .shade
+      go false el false et = never (sym (sym (e .even) ∙ e .inked .even ∙ (λ i. el i || (et i || o i))))
+
+  pub any-shade :
+      (f : Frame) (pixel mask : ℕ) (s t : Float)
+      → stepFrame (pen .mode) (pen .combiner) f (emitOf pixel mask (pen .color) s) ≡ stepFrame (pen .mode) (pen .combiner) f (emitOf pixel mask (pen .color) t)
+  unfolding stepFrame
+  any-shade f pixel mask s t = ap (putCell f pixel) (unshaded-step (pen .mode) (pen .combiner) (pen .color) (countOf mask) s t (cellAt f pixel) even-unshaded)
 
 -- ---- a pixel of the pen's own colour
 module _ (pen : Pen) (mask pixel : ℕ) (shade : Float) {n : ℕ} {f : Frame} (fit : Fit n f) where
@@ -126,24 +159,24 @@ by-pen {q} {mode} {j} {k} {m} {n} {f} {g} e h es d =
     subst (λ (r : RenderMode). Drew r k m (es r k) f g n) e (subst (λ (i : Combiner). Drew q i m (es q i) f g n) h d)
 
 -- ---- a pixel by its shade
-module _ (pen : Pen) (row : ShadeRow) (mask w y x : ℕ) {n : ℕ} {f : Frame} (fit : Fit n f) where
-  pub shaded-none : shown (pen .mode .antialias) mask ≡ false → Drew (pen .mode) (pen .combiner) n (shadedPixel pen row mask w y x) f f 0
+module _ (mode : RenderMode) (k : Combiner) (mixer : Mixer) (row : ShadeRow) (mask w y x : ℕ) {n : ℕ} {f : Frame} (fit : Fit n f) where
+  pub shaded-none : shown (mode .antialias) mask ≡ false → Drew mode k n (shadedPixel mode mixer row mask w y x) f f 0
   unfolding mixedFragment
   shaded-none h =
-      subst (λ (b : Bool). Drew (pen .mode) (pen .combiner) n (emits (cond b (covered mask (colorValue (mixedBy (pen .mixer) (shadeOn row x))) (shadeOn row x .a)) Empty) (y * w + x)) f f 0) (sym h)
+      subst (λ (b : Bool). Drew mode k n (emits (cond b (covered mask (colorValue (mixedBy mixer (shadeOn row x))) (shadeOn row x .a)) Empty) (y * w + x)) f f 0) (sym h)
       (record { ran = record { state = refl; count = refl }; fit = fit })
 
   pub shaded-one :
-      {g : Frame} {shade color : Rgba} → shown (pen .mode .antialias) mask ≡ true → (1 ≤ countOf mask) × (countOf mask ≤ 8)
-      → shade ≡ shadeOn row x → color ≡ mixedBy (pen .mixer) shade
-      → g ≡ stepFrame (pen .mode) (pen .combiner) f (emitOf (y * w + x) mask color (shade .a))
-      → Drew (pen .mode) (pen .combiner) n (shadedPixel pen row mask w y x) f g 1
+      {g : Frame} {shade color : Rgba} → shown (mode .antialias) mask ≡ true → (1 ≤ countOf mask) × (countOf mask ≤ 8)
+      → shade ≡ shadeOn row x → color ≡ mixedBy mixer shade
+      → g ≡ stepFrame mode k f (emitOf (y * w + x) mask color (shade .a))
+      → Drew mode k n (shadedPixel mode mixer row mask w y x) f g 1
   unfolding mixedFragment
   shaded-one {g} {shade} {color} h u es ec t =
-      let c = ec ∙ ap (mixedBy (pen .mixer)) es in
-      let t′ = t ∙ (λ i. stepFrame (pen .mode) (pen .combiner) f (emitOf (y * w + x) mask (c i) (es i .a))) in
-      subst (λ (b : Bool). Drew (pen .mode) (pen .combiner) n (emits (cond b (covered mask (colorValue (mixedBy (pen .mixer) (shadeOn row x))) (shadeOn row x .a)) Empty) (y * w + x)) f g 1) (sym h)
+      let c = ec ∙ ap (mixedBy mixer) es in
+      let t′ = t ∙ (λ i. stepFrame mode k f (emitOf (y * w + x) mask (c i) (es i .a))) in
+      subst (λ (b : Bool). Drew mode k n (emits (cond b (covered mask (colorValue (mixedBy mixer (shadeOn row x))) (shadeOn row x .a)) Empty) (y * w + x)) f g 1) (sym h)
       (record {
         ran = record { state = t′; count = refl };
-        fit = subst (Fit n) (sym t′) (fit-step (pen .mode) (pen .combiner) (emitOf (y * w + x) mask (mixedBy (pen .mixer) (shadeOn row x)) (shadeOn row x .a)) fit (u .0) (u .1));
+        fit = subst (Fit n) (sym t′) (fit-step mode k (emitOf (y * w + x) mask (mixedBy mixer (shadeOn row x)) (shadeOn row x .a)) fit (u .0) (u .1));
       })

@@ -60,7 +60,7 @@ set-back [] i h = absurd (omega arith)
 set-back (x ∷ l) zero h = refl
 set-back (x ∷ l) (suc i) h = ap (λ (m : List ℕ). x ∷ m) (set-back l i (omega arith))
 
-three-back :
+pub three-back :
     (l : List ℕ) (i : ℕ) → i + 2 < length l
     → set (set (set l i (getD l i 0)) (i + 1) (getD l (i + 1) 0)) (i + 2) (getD l (i + 2) 0) ≡ l
 three-back l i h =

@@ -1,9 +1,11 @@
-// What does not turn on the pixel is worked out once a draw: the combiner resolved, the colour that it gives for the shade 1.0, the bytes of that, what pixels
-// with all samples do to a coverage, whether P is the pixel's colour, and whether the colour of a rectangle, and of a triangle, is that one and opaque.
+// What does not turn on the pixel is worked out once a draw: the combiner resolved, the colour that it gives for the shade 1.0, the bytes of that and its layer,
+// what pixels with all samples do to a coverage, whether P is the pixel's colour, how that colour meets the memory, and whether a triangle's pixels all have it.
 ghost use mathlib.Core.Path.{_≡_};
 ghost use mathlib.Core.Bool.{cond};
 ghost use Rattle.cell.specs.Own.{colorsOf};
 ghost use Rattle.paint.specs.Pen.{Inked, Mixed};
+use blender::layer::Layer;
+use blender::layer::layer_of;
 use cell::Colors;
 use combiner::Combiner;
 use combiner::mixer::Mixer;
@@ -19,7 +21,10 @@ pub struct Pen {
     pub seven: bool,
     pub sets: bool,
     pub plain: bool,
+    pub layer: Layer,
     pub opaque: bool,
+    pub layered: bool,
+    pub even: bool,
     pub flat: bool,
 }
 
@@ -45,7 +50,11 @@ pub fn pen_of(mode: RenderMode, combiner: Combiner) -> Pen
     let own = cell::own_colors(mode, combiner, color);
     let seven = cell::seven(mode);
     let sets = cell::sets(mode);
+    let layer = layer_of(mode, combiner, color);
     let opaque = blender::opaque(mode, color.a);
+    let layered = blender::layer::layered(mode, color.a);
+    let steady = blender::layer::steady(mode);
+    let even = layered | (steady | opaque);
     let shaded = combiner.uses_shade();
     let mux = blender::decode_mux(mode.blender_mux);
     let plain = mux.p == 0;
@@ -58,7 +67,10 @@ pub fn pen_of(mode: RenderMode, combiner: Combiner) -> Pen
         seven,
         sets,
         plain,
+        layer,
         opaque,
-        flat: opaque & !shaded,
+        layered,
+        even,
+        flat: even & !shaded,
     }
 }

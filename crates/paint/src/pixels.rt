@@ -13,7 +13,7 @@ ghost use Rattle.mode.specs.declared.Rgba.{Rgba};
 ghost use Rattle.combiner.specs.declared.Combiner.{Combiner};
 ghost use Rattle.blender.specs.Known.{opaqueOf};
 ghost use Rattle.cell.specs.Own.{ownColors};
-ghost use Rattle.paint.specs.Pen.{Solid, ownPixel};
+ghost use Rattle.paint.specs.Pen.{Even, ownPixel};
 use crate::pen::Pen;
 use cell::Colors;
 use cell::Source;
@@ -67,7 +67,7 @@ pub fn cover(
     frame::put_cell(colors, coverages, marks, pixel, after);
 }
 
-// A pixel of the pen's own colour with these samples: how many are emitted.
+// A pixel of the pen's own colour with these samples: how many are emitted. Its shade's alpha has no part in what is stored; 1.0 stands for it.
 fn emit_own(
     colors: &mut [u8],
     coverages: &mut [u8],
@@ -76,13 +76,27 @@ fn emit_own(
     mask: u8,
     pixel: usize,
 ) -> u64
-    requires { ⌜ Solid pen ⌝ ∗ ⌜ pixel < length (now marks) ⌝ ∗ ⌜ Fit (length (now marks)) (frameOf (now colors) (now coverages) (now marks)) ⌝ }
+    requires { ⌜ Even pen ⌝ ∗ ⌜ pixel < length (now marks) ⌝ ∗ ⌜ Fit (length (now marks)) (frameOf (now colors) (now coverages) (now marks)) ⌝ }
     ensures { λ r. ⌜ ((shade : Float) → Drew (pen .mode) (pen .combiner) (length (now (marks .entry))) (ownPixel pen mask pixel shade) (frameOf (now (colors .entry)) (now (coverages .entry)) (now (marks .entry))) (frameOf (now (colors .exit)) (now (coverages .exit)) (now (marks .exit))) r) ⌝ }
 {
     if !raster::is_shown(pen.mode.antialias, mask) {
         return 0;
     }
-    cover(colors, coverages, marks, pen.mode, pen.own, mask, pixel);
+    if pen.opaque {
+        cover(colors, coverages, marks, pen.mode, pen.own, mask, pixel);
+        return 1;
+    }
+    step(
+        colors,
+        coverages,
+        marks,
+        pen.mode,
+        pen.combiner,
+        mask,
+        pen.color,
+        1.0,
+        pixel,
+    );
     1
 }
 
@@ -97,7 +111,7 @@ pub fn own_pixel(
     y: u32,
     x: u32,
 ) -> u64
-    requires { ⌜ (x < width) × Solid pen ⌝ ∗ ⌜ Room width (y + 1) (frameOf (now colors) (now coverages) (now marks)) ⌝ }
+    requires { ⌜ (x < width) × Even pen ⌝ ∗ ⌜ Room width (y + 1) (frameOf (now colors) (now coverages) (now marks)) ⌝ }
     ensures { λ r. ⌜ ((shade : Float) → Drew (pen .mode) (pen .combiner) (length (now (marks .entry))) (ownPixel pen mask (y * width + x) shade) (frameOf (now (colors .entry)) (now (coverages .entry)) (now (marks .entry))) (frameOf (now (colors .exit)) (now (coverages .exit)) (now (marks .exit))) r) ⌝ }
 {
     let pixel = y * width + x;

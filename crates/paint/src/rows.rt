@@ -10,14 +10,18 @@ ghost use Rattle.raster.specs.Parts.{from};
 ghost use Rattle.paint.specs.Pixel.{Room, Fulls};
 ghost use Rattle.paint.specs.Steps.{Drew};
 ghost use Rattle.frame.specs.Frame.{frameOf};
-ghost use Rattle.paint.specs.Pen.{Inked, Solid, shadedPixel, shadedAt, ownAt};
+ghost use Rattle.paint.specs.Pen.{Inked, Even, Own, shadedPixel, shadedAt, ownAt};
 use crate::fill::fill_row;
 use crate::pen::Pen;
 use crate::pen::bytes_of;
 use crate::pixels::cover;
 use crate::pixels::own_pixel;
 use crate::pixels::step;
+use cell::Colors;
+use combiner::Combiner;
+use combiner::mixer::Mixer;
 use edges::Edges;
+use mode::RenderMode;
 use range::Range;
 use vertex::row::ShadeRow;
 
@@ -37,47 +41,42 @@ fn samples(edges: Edges, full: Range, x: u32) -> u8
     edges::mask(edges, x)
 }
 
-// Pixel x of row y, with these samples.
+// Pixel x of row y, with these samples. It takes the parts of the pen that it needs, since a whole pen would be copied for each pixel.
 fn draw_pixel(
     colors: &mut [u8],
     coverages: &mut [u8],
     marks: &mut [u8],
-    pen: Pen,
+    mode: RenderMode,
+    combiner: Combiner,
+    mixer: Mixer,
+    own: Colors,
+    plain: bool,
     row: ShadeRow,
     mask: u8,
     width: u32,
     y: u32,
     x: u32,
 ) -> u64
-    requires { ⌜ (x < width) × Inked pen ⌝ ∗ ⌜ Room width (y + 1) (frameOf (now colors) (now coverages) (now marks)) ⌝ }
-    ensures { λ r. ⌜ Drew (pen .mode) (pen .combiner) (length (now (marks .entry))) (shadedPixel pen row mask width y x) (frameOf (now (colors .entry)) (now (coverages .entry)) (now (marks .entry))) (frameOf (now (colors .exit)) (now (coverages .exit)) (now (marks .exit))) r ⌝ }
+    requires { ⌜ (x < width) × Own mode combiner plain own ⌝ ∗ ⌜ Room width (y + 1) (frameOf (now colors) (now coverages) (now marks)) ⌝ }
+    ensures { λ r. ⌜ Drew mode combiner (length (now (marks .entry))) (shadedPixel mode mixer row mask width y x) (frameOf (now (colors .entry)) (now (coverages .entry)) (now (marks .entry))) (frameOf (now (colors .exit)) (now (coverages .exit)) (now (marks .exit))) r ⌝ }
 {
-    if !raster::is_shown(pen.mode.antialias, mask) {
+    if !raster::is_shown(mode.antialias, mask) {
         return 0;
     }
-    let mixer = pen.mixer;
     let shade = row.at(x);
     let color = mixer.color(shade);
     let pixel = y * width + x;
-    if blender::opaque(pen.mode, color.a) {
-        let own = bytes_of(pen.plain, pen.own, color);
-        cover(
-            colors,
-            coverages,
-            marks,
-            pen.mode,
-            own,
-            mask,
-            pixel as usize,
-        );
+    if blender::opaque(mode, color.a) {
+        let bytes = bytes_of(plain, own, color);
+        cover(colors, coverages, marks, mode, bytes, mask, pixel as usize);
         return 1;
     }
     step(
         colors,
         coverages,
         marks,
-        pen.mode,
-        pen.combiner,
+        mode,
+        combiner,
         mask,
         color,
         shade.a,
@@ -106,12 +105,26 @@ pub fn draw_span(
     let mut n: u64 = 0;
     for x in start..end {
         let mask = samples(edges, full, x);
-        n += draw_pixel(colors, coverages, marks, pen, row, mask, width, y, x);
+        n += draw_pixel(
+            colors,
+            coverages,
+            marks,
+            pen.mode,
+            pen.combiner,
+            pen.mixer,
+            pen.own,
+            pen.plain,
+            row,
+            mask,
+            width,
+            y,
+            x,
+        );
     }
     n
 }
 
-// The same where every pixel is opaque and has the pen's own colour: whatever its shade alpha is.
+// The same where every pixel has the pen's own colour, whatever its shade alpha is.
 fn flat_span(
     colors: &mut [u8],
     coverages: &mut [u8],
@@ -123,7 +136,7 @@ fn flat_span(
     start: u32,
     end: u32,
 ) -> u64
-    requires { ⌜ (end ≤ width) × Solid pen ⌝ ∗ ⌜ Room width (y + 1) (frameOf (now colors) (now coverages) (now marks)) ⌝ }
+    requires { ⌜ (end ≤ width) × Even pen ⌝ ∗ ⌜ Room width (y + 1) (frameOf (now colors) (now coverages) (now marks)) ⌝ }
     ensures { λ r. ⌜ ((shade : ℕ → Float) → Drew (pen .mode) (pen .combiner) (length (now (marks .entry))) (from (ownAt pen edges width y shade) start end) (frameOf (now (colors .entry)) (now (coverages .entry)) (now (marks .entry))) (frameOf (now (colors .exit)) (now (coverages .exit)) (now (marks .exit))) r) ⌝ }
 {
     let mut n: u64 = 0;
@@ -147,7 +160,7 @@ pub fn flat_row(
     start: u32,
     end: u32,
 ) -> u64
-    requires { ⌜ (end ≤ width) × Solid pen × Inked pen ⌝ ∗ ⌜ Inner (allSamples edges) start end full ⌝ ∗ ⌜ Room width (y + 1) (frameOf (now colors) (now coverages) (now marks)) ⌝ }
+    requires { ⌜ (end ≤ width) × Even pen ⌝ ∗ ⌜ Inner (allSamples edges) start end full ⌝ ∗ ⌜ Room width (y + 1) (frameOf (now colors) (now coverages) (now marks)) ⌝ }
     ensures { λ r. ⌜ ((shade : ℕ → Float) → Drew (pen .mode) (pen .combiner) (length (now (marks .entry))) (from (ownAt pen edges width y shade) start end) (frameOf (now (colors .entry)) (now (coverages .entry)) (now (marks .entry))) (frameOf (now (colors .exit)) (now (coverages .exit)) (now (marks .exit))) r) ⌝ }
 {
     let from = full.start;

@@ -1,10 +1,9 @@
--- `rectangles::draw_pixel` meets its contract: the pen's own colour where it is opaque, and else the fragment at its place.
+-- `rectangles::draw_pixel` meets its contract: the pen's own colour where it is even, and else the fragment at its place.
 use native.Mathlib.Omega.{arith}
 use Rattle.combiner.specs.Combine.{fullShade}
 use Rattle.frame.proofs.Fits.{pixels-le}
 use Rattle.paint.proofs.Drawing.{pixel-in, drew-as}
 use Rattle.draw.proofs.Shapes.{drew-fragment}
-use Rattle.paint.proofs.Pens.{solid-rectangle}
 use Rattle.draw.proofs.Spans.{counted-colored, own-colored}
 use borrow.Author.Needs.{needs}
 use Rattle.draw.proofs.rectangles.draw_pixel.Statement.{statement}
@@ -13,7 +12,7 @@ use Rattle.draw.proofs.rectangles.draw_pixel.Tie as tie
 own-pixel-requires : tie.Need-own-pixel-requires
 own-pixel-requires c κs =
     let s = c .before .before .before .before .before .before .before in
-    ((s .pre .0 .0, solid-rectangle (s .args .pen) (s .pre .0 .1 .inked) (c .before .before .before .if1 .taken)), s .pre .1)
+    ((s .pre .0 .0, record { inked = s .pre .0 .1 .inked; even = c .before .before .before .if1 .taken }), s .pre .1)
 
 same-length : tie.Need-same-length
 same-length c = search needs
@@ -27,7 +26,7 @@ same-length-3 c = search needs
 returns : tie.Need-returns
 returns c =
     let s = c .before .before .before .before .before .before .before .before .before .before .before .before .before .before in
-    drew-as (own-colored (s .args .pen) (s .pre .0 .1) (c .before .before .before .before .before .before .before .before .before .before .if1 .taken) _ _) (c .before .before .before .before .before .before .own-pixel .ensures (fullShade .a))
+    drew-as (own-colored (s .args .pen) (s .pre .0 .1) _ _) (c .before .before .before .before .before .before .own-pixel .ensures (fullShade .a))
 
 colored-pixel-requires : tie.Need-colored-pixel-requires
 colored-pixel-requires c κs = search needs

@@ -6,7 +6,6 @@ use Rattle.combiner.specs.Combine.{fullShade}
 use Rattle.raster.specs.Emitted.{rectangleFragment}
 use Rattle.draw.specs.Parts.{rectanglePixel}
 use Rattle.paint.proofs.Drawing.{room-now}
-use Rattle.paint.proofs.Pens.{solid-rectangle}
 use Rattle.paint.proofs.Joins.{few, drew-three}
 use Rattle.draw.proofs.Spans.{own-rectangle}
 use borrow.Author.Needs.{needs}
@@ -26,14 +25,14 @@ fill-row-requires : tie.Need-fill-row-requires
 fill-row-requires c κs =
     let s = c .before .before .before .before .before .before .before .before .before .before .before .before .before .before .before .before in
     let i = s .pre .1 .0 in
-    ((i .order, omega (arith, i .to, s .pre .0 .0), solid-rectangle (s .args .pen) (s .pre .0 .1 .inked) (s .pre .0 .2), s .pre .0 .1 .inked), room-now (s .pre .1 .1) (c .before .before .before .before .before .before .before .before .before .draw-span .ensures .fit))
+    ((i .order, omega (arith, i .to, s .pre .0 .0), record { inked = s .pre .0 .1 .inked; even = s .pre .0 .2 }), room-now (s .pre .1 .1) (c .before .before .before .before .before .before .before .before .before .draw-span .ensures .fit))
 
 draw-span-requires-2 : tie.Need-draw-span-requires-2
 draw-span-requires-2 c κs =
     let s = c .before .before .before .before .before .before .before .before .before .before .before .before .before .before .before .before .before .before .before .before .before .before .before .before .before .before in
     let a = s .args in
     let full = c .before .before .before .before .before .before .before .before .before .fill-row .ensures (rectanglePixel (a .pen .mode) (a .color) (a .sides) (a .width) (a .y)) alpha
-    (λ x p q. own-rectangle (a .pen) (s .pre .0 .1) (s .pre .0 .2) (a .sides) (a .width) (a .y) x (s .pre .1 .0 .all x p q) (s .pre .0 .3)) in
+    (λ x p q. own-rectangle (a .pen) (s .pre .0 .1) (a .sides) (a .width) (a .y) x (s .pre .1 .0 .all x p q) (s .pre .0 .3)) in
     ((s .pre .0 .0, s .pre .0 .1, s .pre .0 .3), room-now (room-now (s .pre .1 .1) (c .before .before .before .before .before .before .before .before .before .before .before .before .before .before .before .before .before .before .before .draw-span .ensures .fit)) (full .fit))
 
 add-result : tie.Need-add-result
@@ -41,7 +40,7 @@ add-result c =
     let s = c .before .before .before .before .before .before .before .before .before .before .before .before .before .before .before .before .before .before .before .before .before .before .before .before .before .before .before .before .before .before .before .before .before in
     let a = s .args in
     let full = c .before .before .before .before .before .before .before .before .before .before .before .before .before .before .before .before .fill-row .ensures (rectanglePixel (a .pen .mode) (a .color) (a .sides) (a .width) (a .y)) alpha
-    (λ x p q. own-rectangle (a .pen) (s .pre .0 .1) (s .pre .0 .2) (a .sides) (a .width) (a .y) x (s .pre .1 .0 .all x p q) (s .pre .0 .3)) in
+    (λ x p q. own-rectangle (a .pen) (s .pre .0 .1) (a .sides) (a .width) (a .y) x (s .pre .1 .0 .all x p q) (s .pre .0 .3)) in
     let r = rectangleFragment (a .pen .mode .antialias) (a .color) (a .sides) (a .y) in
     let p : ℕ → ℕ = λ x. a .y * a .width + x in
     omega (arith, few r p _ _ (c .before .before .before .before .before .before .before .before .before .before .before .before .before .before .before .before .before .before .before .before .before .before .before .before .before .before .draw-span .ensures), few r p _ _ full, s .pre .1 .0 .order, s .pre .1 .0 .to, s .pre .0 .0, s .pre .1 .1 .wide)
@@ -51,7 +50,7 @@ add-result-2 c =
     let s = c .before .before .before .before .before .before .before .before .before .before .before .before .before .before .before .before .before .before .before .before .before .before .before .before .before .before .before .before .before .before .before .before .before in
     let a = s .args in
     let full = c .before .before .before .before .before .before .before .before .before .before .before .before .before .before .before .before .fill-row .ensures (rectanglePixel (a .pen .mode) (a .color) (a .sides) (a .width) (a .y)) alpha
-    (λ x p q. own-rectangle (a .pen) (s .pre .0 .1) (s .pre .0 .2) (a .sides) (a .width) (a .y) x (s .pre .1 .0 .all x p q) (s .pre .0 .3)) in
+    (λ x p q. own-rectangle (a .pen) (s .pre .0 .1) (a .sides) (a .width) (a .y) x (s .pre .1 .0 .all x p q) (s .pre .0 .3)) in
     let r = rectangleFragment (a .pen .mode .antialias) (a .color) (a .sides) (a .y) in
     let p : ℕ → ℕ = λ x. a .y * a .width + x in
     omega (arith, few r p _ _ (c .before .before .before .before .before .before .before .before .before .before .before .before .before .before .before .before .before .before .before .before .before .before .before .before .before .before .draw-span .ensures), few r p _ _ full, few r p _ _ (c .before .before .before .before .before .before .draw-span2 .ensures), s .pre .1 .0 .order, s .pre .1 .0 .to, s .pre .0 .0, s .pre .1 .1 .wide)
@@ -70,7 +69,7 @@ returns c =
     let s = c .before .before .before .before .before .before .before .before .before .before .before .before .before .before .before .before .before .before .before .before .before .before .before .before .before .before .before .before .before .before .before .before .before in
     let a = s .args in
     let full = c .before .before .before .before .before .before .before .before .before .before .before .before .before .before .before .before .fill-row .ensures (rectanglePixel (a .pen .mode) (a .color) (a .sides) (a .width) (a .y)) alpha
-    (λ x p q. own-rectangle (a .pen) (s .pre .0 .1) (s .pre .0 .2) (a .sides) (a .width) (a .y) x (s .pre .1 .0 .all x p q) (s .pre .0 .3)) in
+    (λ x p q. own-rectangle (a .pen) (s .pre .0 .1) (a .sides) (a .width) (a .y) x (s .pre .1 .0 .all x p q) (s .pre .0 .3)) in
     let i = s .pre .1 .0 in
     drew-three (rectanglePixel (a .pen .mode) (a .color) (a .sides) (a .width) (a .y)) _ _ _ _ (i .from) (i .order) (i .to) (c .before .before .before .before .before .before .before .before .before .before .before .before .before .before .before .before .before .before .before .before .before .before .before .before .before .before .draw-span .ensures) full (c .before .before .before .before .before .before .draw-span2 .ensures)
 

@@ -4,7 +4,7 @@ use Prim.Native.Nat.{ℕ}
 use Rattle.vertex.specs.Shade.{shadeOf}
 use Rattle.paint.proofs.Drawing.{drew-as}
 use Rattle.draw.proofs.Shapes.{row-drawn}
-use Rattle.paint.proofs.Pens.{solid-triangle}
+use Rattle.paint.proofs.Pens.{even-triangle}
 use Rattle.draw.proofs.Spans.{shaded-row, flat-row}
 use borrow.Author.Needs.{needs}
 use Rattle.draw.proofs.triangles.draw_row.Statement.{statement}
@@ -23,7 +23,7 @@ flat-row-requires : tie.Need-flat-row-requires
 flat-row-requires c κs =
     let s = c .before .before .before .before .before .before .before .before .before .before in
     let i = s .pre .0 .2 .inked in
-    ((omega (arith, c .before .before .before .before .before .bounds .ensures .to, s .pre .0 .1), solid-triangle (s .args .pen) i (c .before .before .before .if1 .taken), i), (c .before .before .before .before .full .ensures, s .pre .1 .1))
+    ((omega (arith, c .before .before .before .before .before .bounds .ensures .to, s .pre .0 .1), even-triangle (s .args .pen) i (c .before .before .before .if1 .taken)), (c .before .before .before .before .full .ensures, s .pre .1 .1))
 
 same-length : tie.Need-same-length
 same-length c = search needs

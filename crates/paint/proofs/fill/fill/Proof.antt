@@ -1,21 +1,21 @@
 -- `fill` meets its contract: a loop over pixels.
-use mathlib.Core.Path.{sym}
 use Prim.Native.Nat.{_-_}
 use native.Mathlib.Omega.{arith}
 use Rattle.frame.specs.Frame.{frameOf}
-use Rattle.paint.proofs.Fills.{Filling, filling-start, filling-more, filling-done, long-now}
+use Rattle.paint.specs.Fill.{filledAt}
+use Rattle.paint.proofs.Fills.{Filling, filling-start, filling-more, filling-done, filled-keeps, long-now}
 use Rattle.paint.proofs.fill.fill.Statement.{statement}
 use Rattle.paint.proofs.fill.fill.Tie as tie
 
 abbrev Inv-loop : tie.InvT-loop
-Inv-loop colors₀ coverages₀ marks₀ own seven sets start end pixel₀ colors coverages marks pixel =
-    Filling seven sets own start end (frameOf colors₀ coverages₀ marks₀) pixel (frameOf colors coverages marks)
+Inv-loop colors₀ coverages₀ marks₀ own opaque seven sets start end pixel₀ colors coverages marks pixel =
+    Filling (filledAt opaque seven sets own) start end (frameOf colors₀ coverages₀ marks₀) pixel (frameOf colors coverages marks)
 
 abbrev μ-loop : tie.MeasureT-loop
-μ-loop colors₀ coverages₀ marks₀ own seven sets start end pixel₀ colors coverages marks pixel = end - pixel
+μ-loop colors₀ coverages₀ marks₀ own opaque seven sets start end pixel₀ colors coverages marks pixel = end - pixel
 
 loop-holds : tie.Need-loop-holds Inv-loop μ-loop
-loop-holds c = filling-start _ _ _ _ _ _
+loop-holds c = filling-start _ _ _ _
 
 fill-pixel-requires : tie.Need-fill-pixel-requires Inv-loop μ-loop
 fill-pixel-requires c κs =
@@ -30,7 +30,7 @@ loop-less : tie.Need-loop-less Inv-loop μ-loop
 loop-less c = omega arith
 
 loop-again : tie.Need-loop-again Inv-loop μ-loop
-loop-again c = filling-more _ _ _ _ _ _ (c .before .before .before .before .before .before .before .before .before .before .loop-test .taken) (c .before .before .before .before .before .before .before .before .before .before .before .loop .inv) (c .before .before .before .before .before .before .fill-pixel .ensures)
+loop-again c = filling-more _ _ _ _ (let a = c .before .before .before .before .before .before .before .before .before .before .before .before .before .before .before .args in filled-keeps (a .opaque) (a .seven) (a .sets) (a .own)) (c .before .before .before .before .before .before .before .before .before .before .loop-test .taken) (c .before .before .before .before .before .before .before .before .before .before .before .loop .inv) (c .before .before .before .before .before .before .fill-pixel .ensures)
 
 same-length : tie.Need-same-length Inv-loop μ-loop
 same-length c = c .before .loop .inv .colors
@@ -42,7 +42,7 @@ same-length-3 : tie.Need-same-length-3 Inv-loop μ-loop
 same-length-3 c = c .before .loop .inv .marks
 
 returns : tie.Need-returns Inv-loop μ-loop
-returns c = filling-done _ _ _ _ _ _ (c .loop-test .left) (c .before .loop .inv)
+returns c = filling-done _ _ _ _ (c .loop-test .left) (c .before .loop .inv)
 
 pub fill-spec : {M : Type 1} → statement M
 fill-spec =

@@ -23,8 +23,17 @@ seven-requires c κs = search needs
 sets-requires : tie.Need-sets-requires
 sets-requires c κs = search needs
 
+layer-of-requires : tie.Need-layer-of-requires
+layer-of-requires c κs = search needs
+
 opaque-requires : tie.Need-opaque-requires
 opaque-requires c κs = search needs
+
+layered-requires : tie.Need-layered-requires
+layered-requires c κs = search needs
+
+steady-requires : tie.Need-steady-requires
+steady-requires c κs = search needs
 
 uses-shade-requires : tie.Need-uses-shade-requires
 uses-shade-requires c κs = search needs
@@ -37,8 +46,8 @@ returns c = (
   refl,
   (
     refl,
-    inked _ _ (c .before .before .before .before .before .before .before .before .before .before .pre) _ _ _ _ (c .before .before .before .before .before .before .before .before .before .mixer .ensures) (c .before .before .before .before .before .before .before .before .full-shade .ensures) (c .before .before .before .before .before .before .before .color .ensures) (c .before .before .before .before .before .before .own-colors .ensures) (c .before .before .before .before .before .seven .ensures)
-        (c .before .before .before .before .sets .ensures) (c .before .before .before .opaque .ensures) (c .before .before .uses-shade .ensures) (c .before .decode-mux .ensures),
+    inked _ _ (c .before .before .before .before .before .before .before .before .before .before .before .before .before .pre) _ _ _ _ _ _ (c .before .before .before .before .before .before .before .before .before .before .before .before .mixer .ensures) (c .before .before .before .before .before .before .before .before .before .before .before .full-shade .ensures) (c .before .before .before .before .before .before .before .before .before .before .color .ensures) (c .before .before .before .before .before .before .before .before .before .own-colors .ensures) (c .before .before .before .before .before .before .before .before .seven .ensures)
+        (c .before .before .before .before .before .before .before .sets .ensures) (c .before .before .before .before .before .before .layer-of .ensures) (c .before .before .before .before .before .opaque .ensures) (c .before .before .before .before .layered .ensures) (c .before .before .before .steady .ensures) (c .before .before .uses-shade .ensures) (c .before .decode-mux .ensures),
   ),
 )
 
@@ -52,7 +61,10 @@ pen-of-spec =
     own-colors-requires
     seven-requires
     sets-requires
+    layer-of-requires
     opaque-requires
+    layered-requires
+    steady-requires
     uses-shade-requires
     decode-mux-requires
     returns)

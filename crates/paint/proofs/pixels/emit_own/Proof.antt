@@ -1,9 +1,9 @@
--- `emit_own` meets its contract: nothing where the pixel is not shown, and else one step. Assumes nothing.
+-- `emit_own` meets its contract: nothing where the pixel is not shown, and else one step, for which any shade's alpha serves. Assumes nothing.
 use mathlib.Core.Path.{sym, _∙_}
 use native.Mathlib.Omega.{arith}
 use borrow.Author.Tests.{not-true, not-false}
+use Rattle.paint.proofs.Pens.{any-shade, own-none, own-one, shown-count}
 use borrow.Author.Needs.{needs}
-use Rattle.paint.proofs.Pens.{own-none, own-one, shown-count}
 use Rattle.paint.proofs.pixels.emit_own.Statement.{statement}
 use Rattle.paint.proofs.pixels.emit_own.Tie as tie
 
@@ -11,14 +11,15 @@ is-shown-requires : tie.Need-is-shown-requires
 is-shown-requires c κs = search needs
 
 returns : tie.Need-returns
-returns c = λ shade.
+returns c =
+    λ shade.
     let s = c .before .before .before .before .before in
     own-none (s .args .pen) (s .args .mask) (s .args .pixel) shade (s .pre .1 .1) (sym (c .before .is-shown .ensures) ∙ not-true _ (c .if1 .taken))
 
 cover-requires : tie.Need-cover-requires
 cover-requires c κs =
-    let s = c .before .before .before .before .before .before .before .before in
-    let h = sym (c .before .before .before .before .is-shown .ensures) ∙ not-false _ (c .before .before .before .if1 .left) in
+    let s = c .before .before .before .before .before .before .before .before .before in
+    let h = sym (c .before .before .before .before .before .is-shown .ensures) ∙ not-false _ (c .before .before .before .before .if1 .left) in
     (shown-count (s .args .pen .mode .antialias) (s .args .mask) (omega arith) h, (s .pre .1 .0, s .pre .1 .1))
 
 same-length : tie.Need-same-length
@@ -31,11 +32,36 @@ same-length-3 : tie.Need-same-length-3
 same-length-3 c = search needs
 
 returns-2 : tie.Need-returns-2
-returns-2 c = λ shade.
-    let s = c .before .before .before .before .before .before .before .before .before .before .before .before .before .before .before in
-    let d = c .before .before .before .before .before .before .before .before .before .before in
-    let h = sym (d .before .is-shown .ensures) ∙ not-false _ (d .if1 .left) in
-    own-one (s .args .pen) (s .args .mask) (s .args .pixel) shade (s .pre .1 .1) h (shown-count (s .args .pen .mode .antialias) (s .args .mask) (omega arith) h) (c .before .before .before .before .before .before .cover .ensures (s .args .pen .combiner) (s .args .pen .color) shade (s .pre .0 .opaque) (s .pre .0 .own))
+returns-2 c =
+    λ shade.
+    let s = c .before .before .before .before .before .before .before .before .before .before .before .before .before .before .before .before in
+    let i = s .pre .0 .inked in
+    let h = sym (c .before .before .before .before .before .before .before .before .before .before .before .before .is-shown .ensures) ∙ not-false _ (c .before .before .before .before .before .before .before .before .before .before .before .if1 .left) in
+    own-one (s .args .pen) (s .args .mask) (s .args .pixel) shade (s .pre .1 .1) h (shown-count (s .args .pen .mode .antialias) (s .args .mask) (omega arith) h)
+    (c .before .before .before .before .before .before .cover .ensures (s .args .pen .combiner) (s .args .pen .color) shade (sym (i .opaque) ∙ c .before .before .before .before .before .before .before .before .before .before .if2 .taken) (i .own))
+
+step-requires : tie.Need-step-requires
+step-requires c κs =
+    let s = c .before .before .before .before .before .before .before .before .before in
+    let h = sym (c .before .before .before .before .before .is-shown .ensures) ∙ not-false _ (c .before .before .before .before .if1 .left) in
+    (shown-count (s .args .pen .mode .antialias) (s .args .mask) (omega arith) h, (s .pre .1 .0, s .pre .1 .1))
+
+same-length-4 : tie.Need-same-length-4
+same-length-4 c = search needs
+
+same-length-5 : tie.Need-same-length-5
+same-length-5 c = search needs
+
+same-length-6 : tie.Need-same-length-6
+same-length-6 c = search needs
+
+returns-3 : tie.Need-returns-3
+returns-3 c =
+    λ shade.
+    let s = c .before .before .before .before .before .before .before .before .before .before .before .before .before .before .before .before in
+    let h = sym (c .before .before .before .before .before .before .before .before .before .before .before .before .is-shown .ensures) ∙ not-false _ (c .before .before .before .before .before .before .before .before .before .before .before .if1 .left) in
+    own-one (s .args .pen) (s .args .mask) (s .args .pixel) shade (s .pre .1 .1) h (shown-count (s .args .pen .mode .antialias) (s .args .mask) (omega arith) h)
+    (c .before .before .before .before .before .before .step .ensures ∙ any-shade (s .args .pen) (s .pre .0) (c .before .before .before .before .before .before .before .before .before .before .if2 .left) _ (s .args .pixel) (s .args .mask) _ shade)
 
 pub emit-own-spec : {M : Type 1} → statement M
 emit-own-spec =
@@ -47,4 +73,9 @@ emit-own-spec =
     same-length
     same-length-2
     same-length-3
-    returns-2)
+    returns-2
+    step-requires
+    same-length-4
+    same-length-5
+    same-length-6
+    returns-3)

@@ -4,7 +4,7 @@ use native.Mathlib.Omega.{arith}
 use borrow.Author.Tests.{not-true, not-false}
 use Rattle.frame.proofs.Fits.{pixels-le}
 use Rattle.paint.proofs.Drawing.{pixel-in}
-use Rattle.paint.proofs.Pens.{shown-count, own-bytes, shaded-none, shaded-one}
+use Rattle.paint.proofs.Pens.{shown-count, shaded-none, shaded-one}
 use borrow.Author.Needs.{needs}
 use Rattle.paint.proofs.rows.draw_pixel.Statement.{statement}
 use Rattle.paint.proofs.rows.draw_pixel.Tie as tie
@@ -15,7 +15,7 @@ is-shown-requires c κs = search needs
 returns : tie.Need-returns
 returns c =
     let s = c .before .before .before .before .before in
-    shaded-none (s .args .pen) _ _ _ _ _ (s .pre .1 .fit) (sym (c .before .is-shown .ensures) ∙ not-true _ (c .if1 .taken))
+    shaded-none (s .args .mode) (s .args .combiner) (s .args .mixer) _ _ _ _ _ (s .pre .1 .fit) (sym (c .before .is-shown .ensures) ∙ not-true _ (c .if1 .taken))
 
 at-requires : tie.Need-at-requires
 at-requires c κs = search needs
@@ -25,12 +25,12 @@ color-requires c κs = search needs
 
 mul-pixel : tie.Need-mul-pixel
 mul-pixel c =
-    let s = c .before .before .before .before .before .before .before .before in
+    let s = c .before .before .before .before .before .before .before in
     omega (arith, pixels-le (s .args .y) (s .args .width) (omega (arith, s .pre .1 .high)) (s .pre .1 .wide))
 
 add-pixel : tie.Need-add-pixel
 add-pixel c =
-    let s = c .before .before .before .before .before .before .before .before in
+    let s = c .before .before .before .before .before .before .before in
     omega (arith, pixels-le (s .args .y) (s .args .width) (omega (arith, s .pre .1 .high)) (s .pre .1 .wide), s .pre .0 .0, s .pre .1 .wide)
 
 opaque-requires : tie.Need-opaque-requires
@@ -41,14 +41,14 @@ bytes-of-requires c κs = search needs
 
 cast-cover : tie.Need-cast-cover
 cast-cover c =
-    let s = c .before .before .before .before .before .before .before .before .before .before .before .before .before .before in
+    let s = c .before .before .before .before .before .before .before .before .before .before .before .before .before in
     omega (arith, pixels-le (s .args .y) (s .args .width) (omega (arith, s .pre .1 .high)) (s .pre .1 .wide), s .pre .0 .0, s .pre .1 .wide)
 
 cover-requires : tie.Need-cover-requires
 cover-requires c κs =
-    let s = c .before .before .before .before .before .before .before .before .before .before .before .before .before .before in
-    let h = sym (c .before .before .before .before .before .before .before .before .before .before .is-shown .ensures) ∙ not-false _ (c .before .before .before .before .before .before .before .before .before .if1 .left) in
-    (shown-count (s .args .pen .mode .antialias) (s .args .mask) (omega arith) h, (pixel-in _ (s .pre .1) (s .pre .0 .0), s .pre .1 .fit))
+    let s = c .before .before .before .before .before .before .before .before .before .before .before .before .before in
+    let h = sym (c .before .before .before .before .before .before .before .before .before .is-shown .ensures) ∙ not-false _ (c .before .before .before .before .before .before .before .before .if1 .left) in
+    (shown-count (s .args .mode .antialias) (s .args .mask) (omega arith) h, (pixel-in _ (s .pre .1) (s .pre .0 .0), s .pre .1 .fit))
 
 same-length : tie.Need-same-length
 same-length c = search needs
@@ -61,22 +61,22 @@ same-length-3 c = search needs
 
 returns-2 : tie.Need-returns-2
 returns-2 c =
-    let s = c .before .before .before .before .before .before .before .before .before .before .before .before .before .before .before .before .before .before .before .before .before in
+    let s = c .before .before .before .before .before .before .before .before .before .before .before .before .before .before .before .before .before .before .before .before in
     let a = s .args in
-    let h = sym (c .before .before .before .before .before .before .before .before .before .before .before .before .before .before .before .before .before .is-shown .ensures) ∙ not-false _ (c .before .before .before .before .before .before .before .before .before .before .before .before .before .before .before .before .if1 .left) in
+    let h = sym (c .before .before .before .before .before .before .before .before .before .before .before .before .before .before .before .before .is-shown .ensures) ∙ not-false _ (c .before .before .before .before .before .before .before .before .before .before .before .before .before .before .before .if1 .left) in
     let color = c .before .before .before .before .before .before .before .before .before .before .before .before .before .color .result in
     let o = sym (c .before .before .before .before .before .before .before .before .before .before .before .before .opaque .ensures) ∙ c .before .before .before .before .before .before .before .before .before .before .before .if2 .taken in
-    shaded-one (a .pen) _ _ _ _ _ (s .pre .1 .fit) h (shown-count (a .pen .mode .antialias) (a .mask) (omega arith) h) (c .before .before .before .before .before .before .before .before .before .before .before .before .before .before .at .ensures) (c .before .before .before .before .before .before .before .before .before .before .before .before .before .color .ensures)
-    (c .before .before .before .before .before .before .cover .ensures (a .pen .combiner) color (c .before .before .before .before .before .before .before .before .before .before .before .before .before .before .at .result .a) o (c .before .before .before .before .before .before .before .before .before .before .bytes-of .ensures ∙ own-bytes (a .pen) (s .pre .0 .1) color o))
+    shaded-one (a .mode) (a .combiner) (a .mixer) _ _ _ _ _ (s .pre .1 .fit) h (shown-count (a .mode .antialias) (a .mask) (omega arith) h) (c .before .before .before .before .before .before .before .before .before .before .before .before .before .before .at .ensures) (c .before .before .before .before .before .before .before .before .before .before .before .before .before .color .ensures)
+    (c .before .before .before .before .before .before .cover .ensures (a .combiner) color (c .before .before .before .before .before .before .before .before .before .before .before .before .before .before .at .result .a) o (c .before .before .before .before .before .before .before .before .before .before .bytes-of .ensures ∙ s .pre .0 .1 color o))
 
 cast-step : tie.Need-cast-step
 cast-step c = search needs
 
 step-requires : tie.Need-step-requires
 step-requires c κs =
-    let s = c .before .before .before .before .before .before .before .before .before .before .before .before .before in
-    let h = sym (c .before .before .before .before .before .before .before .before .before .is-shown .ensures) ∙ not-false _ (c .before .before .before .before .before .before .before .before .if1 .left) in
-    (shown-count (s .args .pen .mode .antialias) (s .args .mask) (omega arith) h, (pixel-in _ (s .pre .1) (s .pre .0 .0), s .pre .1 .fit))
+    let s = c .before .before .before .before .before .before .before .before .before .before .before .before in
+    let h = sym (c .before .before .before .before .before .before .before .before .is-shown .ensures) ∙ not-false _ (c .before .before .before .before .before .before .before .if1 .left) in
+    (shown-count (s .args .mode .antialias) (s .args .mask) (omega arith) h, (pixel-in _ (s .pre .1) (s .pre .0 .0), s .pre .1 .fit))
 
 same-length-4 : tie.Need-same-length-4
 same-length-4 c = search needs
@@ -89,10 +89,10 @@ same-length-6 c = search needs
 
 returns-3 : tie.Need-returns-3
 returns-3 c =
-    let s = c .before .before .before .before .before .before .before .before .before .before .before .before .before .before .before .before .before .before .before .before in
+    let s = c .before .before .before .before .before .before .before .before .before .before .before .before .before .before .before .before .before .before .before in
     let a = s .args in
-    let h = sym (c .before .before .before .before .before .before .before .before .before .before .before .before .before .before .before .before .is-shown .ensures) ∙ not-false _ (c .before .before .before .before .before .before .before .before .before .before .before .before .before .before .before .if1 .left) in
-    shaded-one (a .pen) _ _ _ _ _ (s .pre .1 .fit) h (shown-count (a .pen .mode .antialias) (a .mask) (omega arith) h) (c .before .before .before .before .before .before .before .before .before .before .before .before .before .at .ensures) (c .before .before .before .before .before .before .before .before .before .before .before .before .color .ensures) (c .before .before .before .before .before .before .step .ensures)
+    let h = sym (c .before .before .before .before .before .before .before .before .before .before .before .before .before .before .before .is-shown .ensures) ∙ not-false _ (c .before .before .before .before .before .before .before .before .before .before .before .before .before .before .if1 .left) in
+    shaded-one (a .mode) (a .combiner) (a .mixer) _ _ _ _ _ (s .pre .1 .fit) h (shown-count (a .mode .antialias) (a .mask) (omega arith) h) (c .before .before .before .before .before .before .before .before .before .before .before .before .before .at .ensures) (c .before .before .before .before .before .before .before .before .before .before .before .before .color .ensures) (c .before .before .before .before .before .before .step .ensures)
 
 pub draw-pixel-spec : {M : Type 1} → statement M
 draw-pixel-spec =

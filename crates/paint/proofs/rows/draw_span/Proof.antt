@@ -10,6 +10,7 @@ use Rattle.vertex.specs.Row.{shadeOn}
 use Rattle.edges.specs.Sample.{maskOf}
 use Rattle.raster.specs.Emitted.{mixedFragment}
 use Rattle.paint.proofs.Joins.{row-most}
+use Rattle.paint.proofs.Pens.{own-bytes}
 use Rattle.paint.proofs.rows.draw_span.Statement.{statement}
 use Rattle.paint.proofs.rows.draw_span.Tie as tie
 
@@ -30,7 +31,7 @@ samples-requires c κs =
 draw-pixel-requires : tie.Need-draw-pixel-requires Inv-loop μ-loop
 draw-pixel-requires c κs =
     let s = c .before .before .before .before .before .before .before .before .before in
-    ((omega (arith, c .before .before .before .before .loop-test .taken, s .pre .0 .0), s .pre .0 .2), room-now (s .pre .1) (c .before .before .before .before .before .loop .inv .fit))
+    ((omega (arith, c .before .before .before .before .loop-test .taken, s .pre .0 .0), own-bytes (s .args .pen) (s .pre .0 .2)), room-now (s .pre .1) (c .before .before .before .before .before .loop .inv .fit))
 
 add-n : tie.Need-add-n Inv-loop μ-loop
 add-n c =
@@ -39,7 +40,7 @@ add-n c =
     let a = s .args in
     omega (
       arith,
-      le-trans (drawing-fits _ _ _ _ _ _ (c .before .before .before .before .before .before .before .before .before .before .before .loop-test .taken) (l .loop .inv) (drew-as (ap (λ (m : ℕ). let a = c .before .before .before .before .before .before .before .before .before .before .before .before .before .before .before .before .args in shadedPixel (a .pen) (a .row) m (a .width) (a .y) (c .before .before .before .before .before .before .before .before .before .before .before .before .loop .x)) (c .before .before .before .before .before .before .before .before .before .before .samples .ensures)) (c .before .before .before .before .before .before .draw-pixel .ensures)))
+      le-trans (drawing-fits _ _ _ _ _ _ (c .before .before .before .before .before .before .before .before .before .before .before .loop-test .taken) (l .loop .inv) (drew-as (ap (λ (m : ℕ). let a = c .before .before .before .before .before .before .before .before .before .before .before .before .before .before .before .before .args in shadedPixel (a .pen .mode) (a .pen .mixer) (a .row) m (a .width) (a .y) (c .before .before .before .before .before .before .before .before .before .before .before .before .loop .x)) (c .before .before .before .before .before .before .before .before .before .before .samples .ensures)) (c .before .before .before .before .before .before .draw-pixel .ensures)))
           (row-most (λ (x : ℕ). mixedFragment (a .pen .mode .antialias) (a .pen .mixer) (maskOf (a .edges) x) (shadeOn (a .row) x)) (λ (x : ℕ). a .y * a .width + x) (a .start) (a .end)),
       s .pre .0 .0,
       s .pre .1 .wide,
@@ -52,7 +53,7 @@ loop-less : tie.Need-loop-less Inv-loop μ-loop
 loop-less c = omega arith
 
 loop-again : tie.Need-loop-again Inv-loop μ-loop
-loop-again c = drawing-more _ _ _ _ _ _ (c .before .before .before .before .before .before .before .before .before .before .before .loop-test .taken) (c .before .before .before .before .before .before .before .before .before .before .before .before .loop .inv) (drew-as (ap (λ (m : ℕ). let a = c .before .before .before .before .before .before .before .before .before .before .before .before .before .before .before .before .args in shadedPixel (a .pen) (a .row) m (a .width) (a .y) (c .before .before .before .before .before .before .before .before .before .before .before .before .loop .x)) (c .before .before .before .before .before .before .before .before .before .before .samples .ensures)) (c .before .before .before .before .before .before .draw-pixel .ensures)) refl
+loop-again c = drawing-more _ _ _ _ _ _ (c .before .before .before .before .before .before .before .before .before .before .before .loop-test .taken) (c .before .before .before .before .before .before .before .before .before .before .before .before .loop .inv) (drew-as (ap (λ (m : ℕ). let a = c .before .before .before .before .before .before .before .before .before .before .before .before .before .before .before .before .args in shadedPixel (a .pen .mode) (a .pen .mixer) (a .row) m (a .width) (a .y) (c .before .before .before .before .before .before .before .before .before .before .before .before .loop .x)) (c .before .before .before .before .before .before .before .before .before .before .samples .ensures)) (c .before .before .before .before .before .before .draw-pixel .ensures)) refl
 
 same-length : tie.Need-same-length Inv-loop μ-loop
 same-length c = same-colors (c .before .before .before .before .before .pre .1 .fit) (c .before .loop .inv .fit)

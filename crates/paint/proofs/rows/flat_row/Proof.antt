@@ -29,7 +29,7 @@ fill-row-requires : tie.Need-fill-row-requires
 fill-row-requires c κs =
     let s = c .before .before .before .before .before .before .before .before .before .before .before .before .before .before .before .before in
     let i = s .pre .1 .0 in
-    ((i .order, omega (arith, i .to, s .pre .0 .0), s .pre .0 .1, s .pre .0 .2), room-now (s .pre .1 .1) (c .before .before .before .before .before .before .before .before .before .flat-span .ensures some .fit))
+    ((i .order, omega (arith, i .to, s .pre .0 .0), s .pre .0 .1), room-now (s .pre .1 .1) (c .before .before .before .before .before .before .before .before .before .flat-span .ensures some .fit))
 
 flat-span-requires-2 : tie.Need-flat-span-requires-2
 flat-span-requires-2 c κs =
