@@ -2,9 +2,9 @@
 -- where one of its sixteen inputs is, so that a combiner that `new` made has none of these.
 use mathlib.Core.Path.{_≡_, refl, sym, ap, _∙_}
 use Prim.Native.Nat.{ℕ}
-use mathlib.Core.Bool.{Bool, true, false, _||_, true≢false}
+use mathlib.Core.Bool.{Bool, true, false, cond, _||_, true≢false}
 use lib.Ieee.{Float}
-use Rattle.num.specs.Color.{f0, channelOf}
+use Rattle.num.specs.Color.{channelOf}
 use Rattle.mode.specs.declared.CombinerUniform.{CombinerUniform}
 use Rattle.mode.specs.declared.RenderMode.{RenderMode}
 use Rattle.mode.specs.declared.Rgba.{Rgba}
@@ -19,20 +19,36 @@ use Rattle.combiner.specs.declared.Made.the-variants.{With}
 use Rattle.combiner.specs.Combine.{element, colorInput, alphaInput, mixed, joined, channelAt, alphaAt, colorOf, fullShade}
 use Rattle.combiner.specs.Strict.{colorNumber, alphaNumber}
 use Rattle.combiner.specs.New.{newOf}
-use Rattle.combiner.specs.Mixer.{chosen, takenBy, inputBy, channelsOf, mixedBy, colorValue, orZero, shadeFlag, shadeAlphaFlag, alphaFlag, operandOf, mixerOf}
+use Rattle.combiner.specs.Shaded.{shadeAlpha}
+use Rattle.combiner.specs.Mixer.{inputOf, inputBy, channelsOf, mixedBy, colorValue, orZero, shadeFlag, shadeAlphaFlag, kindOf, operandOf, mixerOf}
 use Rattle.combiner.proofs.Known.{missing, refused, mixed-missing, joined-refused, Valued, new-colors}
 use Rattle.combiner.proofs.Flat.{left, right}
 
 -- ---- the inputs
+-- a channel of a colour, by whether it is the shade's and whether it is the shade's alpha
+abbrev takenBy : Bool → Bool → Float → Float → Float → Float
+takenBy p q constant shade alpha = cond p shade (cond q alpha constant)
+
+-- an operand of the kind for three answers has in each channel what they say
+input-kind : (p q r : Bool) (k s : Rgba) → inputOf (kindOf p q r) k s
+    ≡ record { r = takenBy p q (k .r) (s .r) (s .a); g = takenBy p q (k .g) (s .g) (s .a); b = takenBy p q (k .b) (s .b) (s .a); a = cond r (s .a) (k .a) }
+unfolding inputOf kindOf
+input-kind true q true k s = refl
+input-kind true q false k s = refl
+input-kind false true true k s = refl
+input-kind false true false k s = refl
+input-kind false false true k s = refl
+input-kind false false false k s = refl
+
 -- what an operand takes in channel i of a colour, and in alpha
 abbrev colorTaken : Combiner → ColorIn → Rgba → ℕ → Float
 colorTaken k x s i = takenBy (shadeFlag x) (shadeAlphaFlag x) (orZero (colorInput k x fullShade i)) (element s i) (s .a)
 
 abbrev alphaTaken : Combiner → AlphaIn → Rgba → Float
-alphaTaken k x s = takenBy (alphaFlag x) 0 (orZero (alphaInput k x fullShade)) (s .a) f0
+alphaTaken k x s = cond (shadeAlpha x) (s .a) (orZero (alphaInput k x fullShade))
 
 color-taken : (k : Combiner) (x : ColorIn) (s : Rgba) (i : ℕ) → missing (colorInput k x s i) ≡ false → colorInput k x s i ≡ Value (colorTaken k x s i)
-unfolding colorInput chosen takenBy orZero shadeFlag shadeAlphaFlag colorNumber
+unfolding colorInput orZero shadeFlag shadeAlphaFlag colorNumber
 color-taken k cin.Combined s i h = refl
 color-taken k cin.Texel0 s i h = absurd (true≢false h)
 color-taken k cin.Primitive s i h = refl
@@ -56,7 +72,7 @@ color-taken k cin.K5 s i h = absurd (true≢false h)
 color-taken k cin.Noise s i h = absurd (true≢false h)
 
 alpha-taken : (k : Combiner) (x : AlphaIn) (s : Rgba) → missing (alphaInput k x s) ≡ false → alphaInput k x s ≡ Value (alphaTaken k x s)
-unfolding alphaInput chosen takenBy orZero alphaFlag alphaNumber
+unfolding alphaInput orZero shadeAlpha alphaNumber
 alpha-taken k ain.Combined s h = refl
 alpha-taken k ain.Texel0 s h = absurd (true≢false h)
 alpha-taken k ain.Primitive s h = refl
@@ -98,7 +114,10 @@ mixes k s h =
     let g = channel 1 (right (missing (channelAt k s 0)) (missing (channelAt k s 1)) h2) in
     let b = channel 2 hb in
     let a = mixed-taken (λ x. alphaInput k x s) (λ x. alphaTaken k x s) (λ x. alpha-taken k x s) (l .aa) (l .ab) (l .ac) (l .ad) ha in
-    λ i. joined (r i) (g i) (b i) (a i)
+    let input : (x : ColorIn) (y : AlphaIn) → inputBy (operandOf k x y) s ≡ record { r = colorTaken k x s 0; g = colorTaken k x s 1; b = colorTaken k x s 2; a = alphaTaken k y s } =
+    λ x y. input-kind (shadeFlag x) (shadeAlphaFlag x) (shadeAlpha y) (operandOf k x y .constant) s in
+    (λ i. joined (r i) (g i) (b i) (a i))
+    ∙ sym (λ i. colorValue (channelsOf (input (l .ca) (l .aa) i) (input (l .cb) (l .ab) i) (input (l .cc) (l .ac) i) (input (l .cd) (l .ad) i)))
 
 -- A combiner that `new` made has, for every shade, the colour of its mixer.
 pub new-mixes : (u : CombinerUniform) (m : RenderMode) {k : Combiner} → newOf u m ≡ With k → (s : Rgba) → colorOf k s ≡ colorValue (mixedBy (mixerOf k) s)

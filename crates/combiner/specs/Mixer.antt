@@ -1,44 +1,38 @@
 -- A combiner resolved once for a draw: each of its inputs as a constant or a part of the shade, and the colour that this gives. Definitions only.
 -- Source: Combiner::color of writeback.rs, of which this is a faster form; that the colours are the same is the law `new-mixes` (proofs/Mixes).
-use Prim.Native.Nat.{ℕ}
-use mathlib.Core.Bool.{cond}
+use mathlib.Core.Bool.{Bool, true, false}
 use mathlib.Core.List.{[], _∷_}
-use lib.Dec.{eqb}
 use lib.Ieee.{Float}
 use Rattle.num.specs.Color.{f0, channelOf}
 use Rattle.mode.specs.declared.Rgba.{Rgba}
 use Rattle.selectors.specs.declared.ColorIn.{ColorIn}
 use Rattle.selectors.specs.declared.ColorIn.the-variants as cin
 use Rattle.selectors.specs.declared.AlphaIn.{AlphaIn}
-use Rattle.selectors.specs.declared.AlphaIn.the-variants as ain
 use Rattle.combiner.specs.declared.Color.{Color}
 use Rattle.combiner.specs.declared.Color.the-variants as color
 use Rattle.combiner.specs.declared.Combiner.{Combiner}
 use Rattle.combiner.specs.declared.Input.{Input}
 use Rattle.combiner.specs.declared.Input.the-variants.{Value, Refused}
+use Rattle.combiner.specs.declared.mixer.Kind.{Kind}
+use Rattle.combiner.specs.declared.mixer.Kind.the-variants.{Constant, ConstantShade, ShadeConstant, Shade, AlphaConstant, Alpha}
 use Rattle.combiner.specs.declared.mixer.Operand.{Operand}
 use Rattle.combiner.specs.declared.mixer.Mixer.{Mixer}
 use Rattle.combiner.specs.Combine.{colorInput, alphaInput, fullShade}
-use Rattle.combiner.specs.Strict.{colorNumber, alphaNumber, among}
+use Rattle.combiner.specs.Strict.{colorNumber, among}
+use Rattle.combiner.specs.Shaded.{shadeAlpha}
 
 -- ---- a pixel
--- one of two by a flag
-unfoldable pub chosen : ℕ → Float → Float → Float
-chosen flag set clear = cond (eqb flag 0) clear set
+-- what an operand is, by its kind and its constant
+unfoldable pub inputOf : Kind → Rgba → Rgba → Rgba
+inputOf Constant k s = k
+inputOf ConstantShade k s = record { r = k .r; g = k .g; b = k .b; a = s .a }
+inputOf ShadeConstant k s = record { r = s .r; g = s .g; b = s .b; a = k .a }
+inputOf Shade k s = s
+inputOf AlphaConstant k s = record { r = s .a; g = s .a; b = s .a; a = k .a }
+inputOf Alpha k s = record { r = s .a; g = s .a; b = s .a; a = s .a }
 
--- what an operand is in one channel
-unfoldable pub takenBy : ℕ → ℕ → Float → Float → Float → Float
-takenBy own alpha constant shade shadeAlpha = chosen own shade (chosen alpha shadeAlpha constant)
-
--- what an operand is in each channel
 unfoldable pub inputBy : Operand → Rgba → Rgba
-inputBy o s =
-    record {
-      r = takenBy (o .own .r) (o .alpha .r) (o .constant .r) (s .r) (s .a);
-      g = takenBy (o .own .g) (o .alpha .g) (o .constant .g) (s .g) (s .a);
-      b = takenBy (o .own .b) (o .alpha .b) (o .constant .b) (s .b) (s .a);
-      a = takenBy (o .own .a) (o .alpha .a) (o .constant .a) (s .a) f0;
-    }
+inputBy o s = inputOf (o .kind) (o .constant) s
 
 -- (a - b) * c + d in each channel
 unfoldable pub channelsOf : Rgba → Rgba → Rgba → Rgba → Rgba
@@ -63,19 +57,26 @@ unfoldable pub orZero : Input → Float
 orZero (Value x) = x
 orZero Refused = f0
 
-unfoldable pub shadeFlag : ColorIn → ℕ
-shadeFlag x = cond (among colorNumber (cin.Shade ∷ []) x) 1 0
+unfoldable pub shadeFlag : ColorIn → Bool
+shadeFlag x = among colorNumber (cin.Shade ∷ []) x
 
-unfoldable pub shadeAlphaFlag : ColorIn → ℕ
-shadeAlphaFlag x = cond (among colorNumber (cin.ShadeAlpha ∷ []) x) 1 0
+unfoldable pub shadeAlphaFlag : ColorIn → Bool
+shadeAlphaFlag x = among colorNumber (cin.ShadeAlpha ∷ []) x
 
-unfoldable pub alphaFlag : AlphaIn → ℕ
-alphaFlag x = cond (among alphaNumber (ain.Shade ∷ []) x) 1 0
+-- by whether the colour is the shade's, whether it is the shade's alpha, and whether alpha is the shade's
+unfoldable pub kindOf : Bool → Bool → Bool → Kind
+kindOf true q true = Shade
+kindOf true q false = ShadeConstant
+kindOf false true true = Alpha
+kindOf false true false = AlphaConstant
+kindOf false false true = ConstantShade
+kindOf false false false = Constant
 
 -- what a colour selector and an alpha selector name; a refused input counts as 0.0
 unfoldable pub operandOf : Combiner → ColorIn → AlphaIn → Operand
 operandOf k x y =
     record {
+      kind = kindOf (shadeFlag x) (shadeAlphaFlag x) (shadeAlpha y);
       constant =
           record {
             r = orZero (colorInput k x fullShade 0);
@@ -83,8 +84,6 @@ operandOf k x y =
             b = orZero (colorInput k x fullShade 2);
             a = orZero (alphaInput k y fullShade);
           };
-      own = record { r = shadeFlag x; g = shadeFlag x; b = shadeFlag x; a = alphaFlag y };
-      alpha = record { r = shadeAlphaFlag x; g = shadeAlphaFlag x; b = shadeAlphaFlag x; a = 0 };
     }
 
 -- the combiner's four inputs

@@ -1,26 +1,27 @@
-// A combiner resolved once for a draw, so that a pixel's colour takes no jumps: what each selector names is a constant of the draw or a part of the shade,
-// and a pixel chooses between them by flags. The four channels go through the same operations, so that a compiler can carry them out side by side.
+// A combiner resolved once for a draw, so that a pixel looks at no selector: what each pair of selectors names is a constant of the draw or a part of the
+// shade, and one match chooses all four channels of it.
 ghost use mathlib.Core.Path.{_≡_};
-ghost use Rattle.combiner.specs.Mixer.{orZero, chosen, takenBy, inputBy, channelsOf, mixedBy, shadeFlag, shadeAlphaFlag, alphaFlag, operandOf, mixerOf};
+ghost use Rattle.combiner.specs.Mixer.{orZero, inputBy, channelsOf, mixedBy, shadeFlag, shadeAlphaFlag, kindOf, operandOf, mixerOf};
 use crate::Combiner;
 use crate::Input;
 use mode::Rgba;
 use selectors::AlphaIn;
 use selectors::ColorIn;
 
-// 1 or 0 for each channel.
-pub struct Flags {
-    pub r: u32,
-    pub g: u32,
-    pub b: u32,
-    pub a: u32,
+// Where an operand's colour and its alpha come from. A name of two words says the colour's place first, then alpha's.
+pub enum Kind {
+    Constant, // both from the constant
+    ConstantShade, // the constant's colour, the shade's alpha
+    ShadeConstant, // the shade's colour, the constant's alpha
+    Shade, // both from the shade
+    AlphaConstant, // the shade's alpha as red, green and blue, the constant's alpha
+    Alpha, // the shade's alpha in all four channels
 }
 
-// One of the inputs a, b, c and d, in each channel: the shade's channel where `own` is 1, the shade's alpha where `alpha` is 1, and a constant elsewhere.
+// One of the inputs a, b, c and d.
 pub struct Operand {
+    pub kind: Kind,
     pub constant: Rgba,
-    pub own: Flags,
-    pub alpha: Flags,
 }
 
 // Each channel is (a - b) * c + d.
@@ -31,33 +32,50 @@ pub struct Mixer {
     pub d: Operand,
 }
 
-fn choose(flag: u32, set: f32, clear: f32) -> f32
-    ensures { λ r. ⌜ r ≡ chosen flag set clear ⌝ }
-{
-    if flag == 0 { clear } else { set }
-}
-
-// What an operand is in one channel.
-fn take(own: u32, alpha: u32, constant: f32, shade: f32, shade_alpha: f32) -> f32
-    ensures { λ r. ⌜ r ≡ takenBy own alpha constant shade «shade_alpha» ⌝ }
-{
-    choose(own, shade, choose(alpha, shade_alpha, constant))
-}
-
 impl Operand {
-    // In the alpha channel the shade's own channel is its alpha. 0.0 stands in the place of the other choice, which alpha never takes: were it the shade's
-    // alpha too, a compiler would make one choice of two equal ones, and the channels would differ in form.
+    // Every arm names its fields: a copy of a whole struct would go through memory.
     fn input(self, shade: Rgba) -> Rgba
         ensures { λ r. ⌜ r ≡ inputBy self shade ⌝ }
     {
-        let own = self.own;
-        let alpha = self.alpha;
-        let constant = self.constant;
-        Rgba {
-            r: take(own.r, alpha.r, constant.r, shade.r, shade.a),
-            g: take(own.g, alpha.g, constant.g, shade.g, shade.a),
-            b: take(own.b, alpha.b, constant.b, shade.b, shade.a),
-            a: take(own.a, alpha.a, constant.a, shade.a, 0.0),
+        let kind = self.kind;
+        let k = self.constant;
+        match kind {
+            Kind::Constant => Rgba {
+                r: k.r,
+                g: k.g,
+                b: k.b,
+                a: k.a,
+            },
+            Kind::ConstantShade => Rgba {
+                r: k.r,
+                g: k.g,
+                b: k.b,
+                a: shade.a,
+            },
+            Kind::ShadeConstant => Rgba {
+                r: shade.r,
+                g: shade.g,
+                b: shade.b,
+                a: k.a,
+            },
+            Kind::Shade => Rgba {
+                r: shade.r,
+                g: shade.g,
+                b: shade.b,
+                a: shade.a,
+            },
+            Kind::AlphaConstant => Rgba {
+                r: shade.a,
+                g: shade.a,
+                b: shade.a,
+                a: k.a,
+            },
+            Kind::Alpha => Rgba {
+                r: shade.a,
+                g: shade.a,
+                b: shade.a,
+                a: shade.a,
+            },
         }
     }
 }
@@ -100,31 +118,44 @@ fn value_or_zero(input: Input) -> f32
     x
 }
 
-fn shade_flag(input: ColorIn) -> u32
+fn shade_flag(input: ColorIn) -> bool
     ensures { λ r. ⌜ r ≡ shadeFlag input ⌝ }
 {
     match input {
-        ColorIn::Shade => 1,
-        _ => 0,
+        ColorIn::Shade => true,
+        _ => false,
     }
 }
 
-fn shade_alpha_flag(input: ColorIn) -> u32
+fn shade_alpha_flag(input: ColorIn) -> bool
     ensures { λ r. ⌜ r ≡ shadeAlphaFlag input ⌝ }
 {
     match input {
-        ColorIn::ShadeAlpha => 1,
-        _ => 0,
+        ColorIn::ShadeAlpha => true,
+        _ => false,
     }
 }
 
-fn alpha_flag(input: AlphaIn) -> u32
-    ensures { λ r. ⌜ r ≡ alphaFlag input ⌝ }
+// By whether the colour is the shade's, whether it is the shade's alpha, and whether alpha is the shade's.
+fn kind_of(shade: bool, shade_alpha: bool, alpha: bool) -> Kind
+    ensures { λ r. ⌜ r ≡ kindOf shade «shade_alpha» alpha ⌝ }
 {
-    match input {
-        AlphaIn::Shade => 1,
-        _ => 0,
+    if shade {
+        if alpha {
+            return Kind::Shade;
+        }
+        return Kind::ShadeConstant;
     }
+    if shade_alpha {
+        if alpha {
+            return Kind::Alpha;
+        }
+        return Kind::AlphaConstant;
+    }
+    if alpha {
+        return Kind::ConstantShade;
+    }
+    Kind::Constant
 }
 
 impl Combiner {
@@ -137,23 +168,14 @@ impl Combiner {
         let g = value_or_zero(self.color_input(color, full, 1));
         let b = value_or_zero(self.color_input(color, full, 2));
         let a = value_or_zero(self.alpha_input(alpha, full));
-        let own = shade_flag(color);
-        let with_alpha = shade_alpha_flag(color);
-        let own_alpha = alpha_flag(alpha);
+        let kind = kind_of(
+            shade_flag(color),
+            shade_alpha_flag(color),
+            crate::shaded::alpha_is_shade(alpha),
+        );
         Operand {
+            kind,
             constant: Rgba { r, g, b, a },
-            own: Flags {
-                r: own,
-                g: own,
-                b: own,
-                a: own_alpha,
-            },
-            alpha: Flags {
-                r: with_alpha,
-                g: with_alpha,
-                b: with_alpha,
-                a: 0,
-            },
         }
     }
 

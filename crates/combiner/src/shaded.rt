@@ -14,7 +14,7 @@ fn color_is_shade(input: ColorIn) -> bool
     }
 }
 
-fn alpha_is_shade(input: AlphaIn) -> bool
+pub fn alpha_is_shade(input: AlphaIn) -> bool
     ensures { λ r. ⌜ r ≡ shadeAlpha input ⌝ }
 {
     match input {

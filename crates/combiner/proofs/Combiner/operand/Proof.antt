@@ -1,10 +1,10 @@
--- `operand`: its constants and flags by the contracts of what it calls.
+-- `operand`: its kind and its constants by the contracts of what it calls.
 use mathlib.Core.Path.{_≡_, _∙_}
 use lib.Ieee.{Float}
 use Rattle.combiner.specs.declared.Input.{Input}
 use Rattle.combiner.specs.Combine.{colorInput, alphaInput, fullShade}
 use Rattle.mode.specs.declared.Rgba.{Rgba}
-use Rattle.combiner.specs.Mixer.{orZero, operandOf}
+use Rattle.combiner.specs.Mixer.{orZero, kindOf, operandOf}
 use borrow.Author.Needs.{needs}
 use Rattle.combiner.proofs.Combiner.operand.Statement.{statement}
 use Rattle.combiner.proofs.Combiner.operand.Tie as tie
@@ -42,8 +42,11 @@ shade-flag-requires c κs = search needs
 shade-alpha-flag-requires : tie.Need-shade-alpha-flag-requires
 shade-alpha-flag-requires c κs = search needs
 
-alpha-flag-requires : tie.Need-alpha-flag-requires
-alpha-flag-requires c κs = search needs
+alpha-is-shade-requires : tie.Need-alpha-is-shade-requires
+alpha-is-shade-requires c κs = search needs
+
+kind-of-requires : tie.Need-kind-of-requires
+kind-of-requires c κs = search needs
 
 -- a constant is what a selector names for the full shade
 constant : {x : Float} {p : Input} {t : Rgba} (f : Rgba → Input) → x ≡ orZero p → p ≡ f t → t ≡ fullShade → x ≡ orZero (f fullShade)
@@ -52,8 +55,9 @@ constant f e q shade = e ∙ (λ i. orZero (q i)) ∙ (λ i. orZero (f (shade i)
 returns : tie.Need-returns
 unfolding operandOf
 returns c =
-    let a4 = c .before .before .before .before in
-    let v3 = a4 .before in
+    let told = c .before in
+    let v4 = told .before .before .before in
+    let v3 = v4 .before .before in
     let v2 = v3 .before .before in
     let v1 = v2 .before .before in
     let full = v1 .before .before in
@@ -62,15 +66,9 @@ returns c =
     let r = constant (λ t. colorInput (s .self) (s .color) t 0) (v1 .value-or-zero .ensures) (v1 .before .color-input .ensures) shade in
     let g = constant (λ t. colorInput (s .self) (s .color) t 1) (v2 .value-or-zero2 .ensures) (v2 .before .color-input2 .ensures) shade in
     let b = constant (λ t. colorInput (s .self) (s .color) t 2) (v3 .value-or-zero3 .ensures) (v3 .before .color-input3 .ensures) shade in
-    let a = constant (λ t. alphaInput (s .self) (s .alpha) t) (c .before .before .before .value-or-zero4 .ensures) (a4 .alpha-input .ensures) shade in
-    let own = c .before .before .shade-flag .ensures in
-    let alpha = c .before .shade-alpha-flag .ensures in
-    λ i.
-    record {
-      constant = record { r = r i; g = g i; b = b i; a = a i };
-      own = record { r = own i; g = own i; b = own i; a = c .alpha-flag .ensures i };
-      alpha = record { r = alpha i; g = alpha i; b = alpha i; a = 0 };
-    }
+    let a = constant (λ t. alphaInput (s .self) (s .alpha) t) (v4 .value-or-zero4 .ensures) (v4 .before .alpha-input .ensures) shade in
+    let kind = c .kind-of .ensures ∙ (λ i. kindOf (told .before .before .shade-flag .ensures i) (told .before .shade-alpha-flag .ensures i) (told .alpha-is-shade .ensures i)) in
+    λ i. record { kind = kind i; constant = record { r = r i; g = g i; b = b i; a = a i } }
 
 pub operand-spec : {M : Type 1} → statement M
 operand-spec =
@@ -87,5 +85,6 @@ operand-spec =
     value-or-zero-requires-4
     shade-flag-requires
     shade-alpha-flag-requires
-    alpha-flag-requires
+    alpha-is-shade-requires
+    kind-of-requires
     returns)
