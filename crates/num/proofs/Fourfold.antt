@@ -1,20 +1,22 @@
--- `quarterOf` from the size of x, cut off at 16384 and taken four times, which is exact in f32. Assumes nothing.
+-- `quarterOf` from the size of x, cut off at 16384 and taken four times in f64, which is exact. Assumes nothing.
 use mathlib.Core.Path.{_≡_, refl, sym, ap, _∙_}
 use Prim.Native.Nat.{ℕ, _+_, _*_, _/_, _^_, _≤_, _<_, min}
 use native.Mathlib.Nat.{zero-mul, mul-right-comm, lt-of-lt-of-le, le-trans, le-of-eq, mul-le-mul-right, le-of-mul-le-mul-right, div-lt-iff-lt-mul, div-eq-of-lt-le}
 use native.Mathlib.Omega.{arith}
+use mathlib.Core.Logic.{inl}
 use mathlib.Core.Bool.{Bool, true, false, not, cond, true≢false}
 use borrow.Author.Tests.{ltb-true, ltb-false}
 use lib.IntN.{ℤ, pos, negℤ}
 use lib.Dec.{T, leb, ltb, leb→le, nleb→lt, lit≤}
-use lib.Ieee.{Float, nan, inf, fin, binary32, up, down, lt, neg, fits, mul, round}
-use lib.Ieee.Fits.{cond-fits, neg-fits, down-pos}
+use lib.Ieee.{Float, nan, inf, fin, binary32, binary64, up, down, lt, neg, fits, mul, round}
+use lib.Ieee.Fits.{cond-fits, neg-fits, down-pos, fits-widens}
 use lib.Ieee.Exact.{HasValue}
 use lib.Ieee.Nearest.{div-same}
 use lib.Ieee.Positive.{num, den, den-pos, value→cross}
 use Rattle.num.specs.Color.{f0}
 use Rattle.num.specs.Whole.{whole, near, quarterOf}
 use Rattle.num.proofs.Scaled.{scaled}
+use Rattle.num.proofs.Placed.{LowCoarse, coarse}
 use Rattle.num.proofs.Cut.{near-halves, near-none, near-all}
 use Rattle.num.proofs.Clipped.{above0, upto, top, clipped}
 
@@ -30,7 +32,7 @@ abbrev pub cutSize : Float → Float
 cutSize x = upto (top 14) (above0 (size x))
 
 abbrev pub quarters : Float → Float
-quarters x = mul binary32 (cutSize x) f4
+quarters x = mul binary64 (cutSize x) f4
 
 -- ---- equal fractions have one nearest whole number
 near-same : (N D a c : ℕ) → 0 < D → 0 < c → N * c ≡ a * D → near N D ≡ near a c
@@ -46,9 +48,9 @@ own (inf s) a c v = v
 own (fin s m e) a c v = (v .0, refl)
 
 abbrev Quartered : Float → ℕ → ℕ → Type 0
-Quartered y n d = HasValue y false (num y) (den y) × (num y ≤ 65536 * den y) × (near (num y) (den y) ≡ near (n * 4) d)
+Quartered y n d = LowCoarse y × (near (num y) (den y) ≡ near (n * 4) d)
 
-fourfold : (z : Float) (n d : ℕ) → T (fits binary32 z) → 0 < d → n ≤ 16384 * d → HasValue z false n d → Quartered (mul binary32 z f4) n d
+fourfold : (z : Float) (n d : ℕ) → T (fits binary32 z) → 0 < d → n ≤ 16384 * d → HasValue z false n d → Quartered (mul binary64 z f4) n d
 fourfold nan n d t D l v = absurd v
 fourfold (inf s) n d t D l v = absurd v
 fourfold (fin true m e) n d t D l v = absurd (true≢false (v .0))
@@ -56,14 +58,13 @@ fourfold (fin false m e) n d t D l v =
     let N = m * up e in
     let E = down e in
     let P : 0 < E = down-pos e in
-    let y = mul binary32 (fin false m e) f4 in
+    let y = mul binary64 (fin false m e) f4 in
     let low : N ≤ 16384 * E = le-of-mul-le-mul-right (le-trans (le-of-eq (v .1)) (le-trans (mul-le-mul-right E l) (le-of-eq (mul-right-comm 16384 d E)))) D in
     let b : N * 4 < 2 ^ 17 * E = omega arith in
-    let w : HasValue y false (N * 4) E = scaled binary32 false m e 2 t (lt-of-lt-of-le b (mul-le-mul-right E (lit≤ tt))) in
+    let w : HasValue y false (N * 4) E = scaled binary64 false m e 2 (fits-widens (fin false m e) t) (lt-of-lt-of-le b (mul-le-mul-right E (lit≤ tt))) in
     let c : num y * E ≡ N * 4 * den y = value→cross y (N * 4) E w in
-    let four : N * 4 ≤ 65536 * E = omega arith in (
-      own y (N * 4) E w,
-      le-of-mul-le-mul-right (le-trans (le-of-eq c) (le-trans (mul-le-mul-right (den y) four) (le-of-eq (mul-right-comm 65536 E (den y))))) P,
+    let four : N * 4 ≤ 131072 * E = omega arith in (
+      (own y (N * 4) E w, (le-of-mul-le-mul-right (le-trans (le-of-eq c) (le-trans (mul-le-mul-right (den y) four) (le-of-eq (mul-right-comm 131072 E (den y))))) P, coarse (fin false m e) 2 (num y) (den y) t (den-pos y) c)),
       near-same (num y) (den y) (N * 4) E (den-pos y) P c
           ∙ near-same (N * 4) E (n * 4) d P D (mul-right-comm N 4 d ∙ ap (λ (x : ℕ). x * 4) (v .1) ∙ mul-right-comm n E 4),
     )
@@ -115,24 +116,31 @@ cut-size true m e = go (ltb 0 (m * up e * 1 + 0 * down e)) (ltb-false 0 (m * up 
         let is : min (m * up e) (16384 * down e) ≡ 0 = omega arith in
         (refl, zero-mul (down e) ∙ sym (ap (λ (x : ℕ). x * 1) is))
 
-cut-fits : (x : Float) → T (fits binary32 x) → T (fits binary32 (cutSize x))
+pub cut-fits : (x : Float) → T (fits binary32 x) → T (fits binary32 (cutSize x))
 cut-fits x t =
     let a : T (fits binary32 (size x)) = cond-fits binary32 (lt x f0) (neg x) x (neg-fits binary32 x t) t in
     let b : T (fits binary32 (above0 (size x))) = cond-fits binary32 (lt f0 (size x)) (size x) f0 a (unfold fits in tt) in
     cond-fits binary32 (lt (above0 (size x)) (top 14)) (above0 (size x)) (top 14) b (unfold fits in tt)
 
+pub cut-value : (x : Float) → HasValue (cutSize x) false (num (cutSize x)) (den (cutSize x))
+unfolding lt neg
+cut-value nan = (refl, refl)
+cut-value (inf true) = (refl, refl)
+cut-value (inf false) = (refl, refl)
+cut-value (fin s m e) = own (cutSize (fin s m e)) (min (m * up e) (16384 * down e)) (down e) (cut-size s m e)
+
 -- the product's nearest whole number is the size of `quarterOf`
-pub quarters-near : (x : Float) → T (fits binary32 x) → HasValue (quarters x) false (num (quarters x)) (den (quarters x)) × (num (quarters x) ≤ 65536 * den (quarters x)) × (near (num (quarters x)) (den (quarters x)) ≡ sizeOf x)
+pub quarters-near : (x : Float) → T (fits binary32 x) → LowCoarse (quarters x) × (near (num (quarters x)) (den (quarters x)) ≡ sizeOf x)
 unfolding lt neg mul round
-quarters-near nan t = ((refl, refl), omega arith, refl)
-quarters-near (inf true) t = ((refl, refl), omega arith, refl)
-quarters-near (inf false) t = ((refl, refl), omega arith, refl)
+quarters-near nan t = (((refl, refl), (omega arith, inl (0, refl))), refl)
+quarters-near (inf true) t = (((refl, refl), (omega arith, inl (65536 * 2 ^ 26, refl))), refl)
+quarters-near (inf false) t = (((refl, refl), (omega arith, inl (65536 * 2 ^ 26, refl))), refl)
 quarters-near (fin s m e) t =
     let D = down e in
     let n = min (m * up e) (16384 * D) in
     let l : n ≤ 16384 * D = omega arith in
     let q = fourfold (cutSize (fin s m e)) n D (cut-fits (fin s m e) t) (down-pos e) l (cut-size s m e) in
-    (q .0, q .1, q .2 ∙ capped (m * up e) D (down-pos e))
+    (q .0, q .1 ∙ capped (m * up e) D (down-pos e))
 
 -- with its sign
 pub quarter-below : (x : Float) → lt x f0 ≡ true → negℤ (pos (sizeOf x)) ≡ quarterOf x

@@ -7,7 +7,7 @@ ghost use lib.Ieee.{lt, neg};
 ghost use lib.Ieee.Exact.{HasValue};
 ghost use lib.Ieee.Positive.{num, den};
 ghost use Rattle.num.specs.Color.{f0, clamped, channelOf, isFinite, totalLe};
-ghost use Rattle.num.specs.Whole.{whole, near, floor, ceil, indexCap, byteOf, quarterOf};
+ghost use Rattle.num.specs.Whole.{whole, near, Coarse, floor, ceil, indexCap, byteOf, quarterOf};
 
 // No bound of a frame or of a scissor (at most 65,535 + 65,535) is above this: what is cut off here is cut off by them too.
 const INDEX_LIMIT: f32 = 131072.0;
@@ -70,13 +70,14 @@ fn up_to(v: f32, top: f32) -> f32
     if v < top { v } else { top }
 }
 
-// The whole number nearest to y, halves up. The last digit of an f64 from 2^26 up to 2^27 is 2^-26, so that its bits from
-// the 26th up show its whole part. The sum is exact from 1/8 up; below that its rounding stays below 2^26 + 1.
-fn nearest(y: f32) -> u64
-    requires { ⌜ HasValue y false (num y) (den y) ⌝ ∗ ⌜ num y ≤ 131072 * den y ⌝ }
+// The whole number nearest to y, halves up, where y is an f32 or four times one. The last digit of an f64 from 2^26 up to 2^27
+// is 2^-26, so that its bits from the 26th up show its whole part. The sum is exact from 1/8 up; below that its rounding stays
+// below 2^26 + 1.
+fn nearest(y: f64) -> u64
+    requires { ⌜ HasValue y false (num y) (den y) ⌝ ∗ ⌜ num y ≤ 131072 * den y ⌝ ∗ ⌜ Coarse (num y) (den y) ⌝ }
     ensures { λ r. ⌜ r ≡ near (num y) (den y) ⌝ }
 {
-    let w = (y as f64) + 67108864.5;
+    let w = y + 67108864.5;
     (f64::to_bits(w) >> 26) & 0x3ff_ffff
 }
 
@@ -84,7 +85,7 @@ fn nearest(y: f32) -> u64
 pub fn byte_of(v: f32) -> u8
     ensures { λ r. ⌜ r ≡ byteOf v ⌝ }
 {
-    nearest(up_to(above_zero(v), 1.0) * 255.0) as u8
+    nearest((up_to(above_zero(v), 1.0) * 255.0) as f64) as u8
 }
 
 // Rust's x.abs(), but for the sign of a zero.
@@ -94,11 +95,11 @@ fn magnitude(x: f32) -> f32
     if x < 0.0 { -x } else { x }
 }
 
-// Rust's (f64::from(x) * 4.0).round() as i64: below 16384 the product is exact in f32, too.
+// Rust's (f64::from(x) * 4.0).round() as i64, with the size cut off at 16384 before.
 pub fn quarter(x: f32) -> i64
     ensures { λ r. ⌜ r ≡ quarterOf x ⌝ }
 {
-    let n = nearest(up_to(above_zero(magnitude(x)), 16384.0) * 4.0) as i64;
+    let n = nearest((up_to(above_zero(magnitude(x)), 16384.0) as f64) * 4.0) as i64;
     if x < 0.0 { 0 - n } else { n }
 }
 

@@ -1,14 +1,17 @@
 -- `num::byte_of` meets its contract: `nearest` of the product of the float that is cut off at 0 and 1 (`byte-of`). Assumes nothing.
 use mathlib.Core.Path.{_≡_, sym, ap, _∙_, subst}
+use mathlib.Core.Bool.{not, _&&_}
 use Prim.Native.Nat.{_*_, _≤_}
 use native.Mathlib.Omega.{arith}
 use borrow.Author.Needs.{needs}
-use lib.Ieee.{Float, ofBits, mul, binary32}
+use lib.Dec.{T}
+use lib.Ieee.{Float, ofBits, mul, fits, isNan, binary32, binary64}
+use lib.Ieee.Fits.{mul-fits}
 use lib.Ieee.Positive.{num, den, den-pos}
 use Rattle.num.specs.Color.{f1}
 use Rattle.num.specs.Whole.{near, f255}
-use Rattle.num.proofs.Placed.{Low}
-use Rattle.num.proofs.Clipped.{upto}
+use Rattle.num.proofs.Placed.{LowCoarse, coarse-itself, widens}
+use Rattle.num.proofs.Clipped.{above0, upto}
 use Rattle.num.proofs.Bytes.{scaledUp, byte-of}
 use Rattle.num.proofs.byte_of.Statement.{statement}
 use Rattle.num.proofs.byte_of.Tie as tie
@@ -24,22 +27,28 @@ product : (c : tie.After-up-to) → mul binary32 (c .up-to .result) (ofBits bina
 unfolding ofBits
 product c = ap (λ (x : Float). mul binary32 x f255) (c .up-to .ensures ∙ ap (λ (x : Float). upto f1 x) (c .before .above-zero .ensures))
 
+float-to-float-nearest : tie.Need-float-to-float-nearest
+float-to-float-nearest c =
+    let v = c .before .before .before .args .v in
+    let y = scaledUp v in
+    subst (λ (x : Float). T (fits binary64 x && not (isNan x))) (sym (product (c .before))) (widens y (num y) (den y) (mul-fits binary32 (upto f1 (above0 v)) f255) (byte-of v .0 .0))
+
 nearest-requires : tie.Need-nearest-requires
 nearest-requires c κs =
-    let v = c .before .before .args .v in
+    let v = c .before .before .before .args .v in
     let y = scaledUp v in
     let l : num y ≤ 131072 * den y = omega (arith, byte-of v .0 .1, den-pos y) in
-    subst Low (sym (product c)) (byte-of v .0 .0, l)
+    subst LowCoarse (sym (product (c .before))) (byte-of v .0 .0, (l, coarse-itself y (mul-fits binary32 (upto f1 (above0 v)) f255)))
 
-answer : (c : tie.After-nearest) → c .nearest .result ≡ near (num (scaledUp (c .before .before .before .args .v))) (den (scaledUp (c .before .before .before .args .v)))
-answer c = c .nearest .ensures ∙ ap (λ (x : Float). near (num x) (den x)) (product (c .before))
+answer : (c : tie.After-nearest) → c .nearest .result ≡ near (num (scaledUp (c .before .before .before .before .args .v))) (den (scaledUp (c .before .before .before .before .args .v)))
+answer c = c .nearest .ensures ∙ ap (λ (x : Float). near (num x) (den x)) (product (c .before .before))
 
 cast-result : tie.Need-cast-result
-cast-result c = omega (arith, answer c, byte-of (c .before .before .before .args .v) .1)
+cast-result c = omega (arith, answer c, byte-of (c .before .before .before .before .args .v) .1)
 
 returns : tie.Need-returns
-returns c = answer c ∙ byte-of (c .before .before .before .args .v) .2
+returns c = answer c ∙ byte-of (c .before .before .before .before .args .v) .2
 
 pub byte-of-spec : {M : Type 1} → statement M
 byte-of-spec =
-    tie.close (tie.spec above-zero-requires up-to-requires nearest-requires cast-result returns)
+    tie.close (tie.spec above-zero-requires up-to-requires float-to-float-nearest nearest-requires cast-result returns)

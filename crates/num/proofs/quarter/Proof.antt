@@ -1,20 +1,21 @@
 -- `num::quarter` meets its contract: `nearest` of four times the size, which is exact, with the sign of x (`Fourfold`). Assumes nothing.
 use mathlib.Core.Path.{_≡_, sym, ap, _∙_, subst}
-use Prim.Native.Nat.{ℕ, zero, suc, _*_, _≤_}
+use mathlib.Core.Bool.{not, _&&_}
+use Prim.Native.Nat.{ℕ, zero, suc, _≤_}
 use native.Mathlib.Omega.{arith}
 use borrow.Author.Needs.{needs}
 use lib.IntN.{ℤ, pos, negℤ, _-ℤ_, +ℤ-idl}
 use lib.Dec.{T}
-use lib.Ieee.{Float, ofBits, mul, fits, binary32}
+use lib.Ieee.{Float, ofBits, mul, fits, isNan, binary32, binary64}
 use lib.Ieee.Positive.{num, den}
 use mir.Syntax.{w64}
 use mir.Val.{SFits, toZ}
 use mir.Facts.{toZ-pos, toZ-ofZ}
 use denote.Floats.{passes}
 use Rattle.num.specs.Whole.{near}
-use Rattle.num.proofs.Placed.{Low}
+use Rattle.num.proofs.Placed.{LowCoarse, widens}
 use Rattle.num.proofs.Clipped.{upto, above0, top}
-use Rattle.num.proofs.Fourfold.{f4, quarters, quarters-near, sizeOf, sizeOf-le, quarter-below, quarter-above}
+use Rattle.num.proofs.Fourfold.{f4, cutSize, cut-fits, cut-value, quarters, quarters-near, sizeOf, sizeOf-le, quarter-below, quarter-above}
 use Rattle.num.proofs.quarter.Statement.{statement}
 use Rattle.num.proofs.quarter.Tie as tie
 
@@ -41,29 +42,33 @@ above-zero-requires c κs = search needs
 up-to-requires : tie.Need-up-to-requires
 up-to-requires c κs = search needs
 
--- the product, in the words of `Fourfold`
-product : (c : tie.After-up-to) → mul binary32 (c .up-to .result) (ofBits binary32 0x4080_0000) ≡ quarters (c .before .before .before .args .x)
+-- what is cut off, and the product, in the words of `Fourfold`
+cut-is : (c : tie.After-up-to) → c .up-to .result ≡ cutSize (c .before .before .before .args .x)
 unfolding ofBits
-product c =
-    ap (λ (x : Float). mul binary32 x f4)
-    (c .up-to .ensures
-    ∙ ap (λ (x : Float). upto (top 14) x) (c .before .above-zero .ensures ∙ ap above0 (c .before .before .magnitude .ensures)))
+cut-is c = c .up-to .ensures ∙ ap (λ (x : Float). upto (top 14) x) (c .before .above-zero .ensures ∙ ap above0 (c .before .before .magnitude .ensures))
+
+product : (c : tie.After-up-to) → mul binary64 (c .up-to .result) (ofBits binary64 0x4010_0000_0000_0000) ≡ quarters (c .before .before .before .args .x)
+unfolding ofBits
+product c = ap (λ (x : Float). mul binary64 x f4) (cut-is c)
+
+float-to-float-nearest : tie.Need-float-to-float-nearest
+float-to-float-nearest c =
+    let start = c .before .before .before .before in
+    let z = cutSize (start .args .x) in
+    subst (λ (y : Float). T (fits binary64 y && not (isNan y))) (sym (cut-is (c .before))) (widens z (num z) (den z) (cut-fits (start .args .x) (held start)) (cut-value (start .args .x)))
 
 nearest-requires : tie.Need-nearest-requires
 nearest-requires c κs =
-    let start = c .before .before .before in
-    let y = quarters (start .args .x) in
-    let q = quarters-near (start .args .x) (held start) in
-    let l : num y ≤ 131072 * den y = omega (arith, q .1) in
-    subst Low (sym (product c)) (q .0, l)
-
-answer : (c : tie.After-nearest) → c .nearest .result ≡ sizeOf (c .before .before .before .before .args .x)
-answer c =
     let start = c .before .before .before .before in
-    c .nearest .ensures ∙ ap (λ (x : Float). near (num x) (den x)) (product (c .before)) ∙ quarters-near (start .args .x) (held start) .2
+    subst LowCoarse (sym (product (c .before))) (quarters-near (start .args .x) (held start) .0)
+
+answer : (c : tie.After-nearest) → c .nearest .result ≡ sizeOf (c .before .before .before .before .before .args .x)
+answer c =
+    let start = c .before .before .before .before .before in
+    c .nearest .ensures ∙ ap (λ (x : Float). near (num x) (den x)) (product (c .before .before)) ∙ quarters-near (start .args .x) (held start) .1
 
 answer-small : (c : tie.After-nearest) → c .nearest .result ≤ 65536
-answer-small c = subst (λ (n : ℕ). n ≤ 65536) (sym (answer c)) (sizeOf-le (c .before .before .before .before .args .x))
+answer-small c = subst (λ (n : ℕ). n ≤ 65536) (sym (answer c)) (sizeOf-le (c .before .before .before .before .before .args .x))
 
 cast-n : tie.Need-cast-n
 cast-n c = small (c .nearest .result) (answer-small c)
@@ -76,7 +81,7 @@ sub-result c =
 returns : tie.Need-returns
 unfolding ofBits
 returns c =
-    let x = c .before .before .before .before .before .args .x in
+    let x = c .before .before .before .before .before .before .args .x in
     toZ-ofZ (sub-result c)
     ∙ less (c .before .nearest .result) (answer-small (c .before))
     ∙ ap (λ (n : ℕ). negℤ (pos n)) (answer (c .before))
@@ -85,7 +90,7 @@ returns c =
 returns-2 : tie.Need-returns-2
 unfolding ofBits
 returns-2 c =
-    let x = c .before .before .before .before .before .args .x in
+    let x = c .before .before .before .before .before .before .args .x in
     toZ-pos w64 (small (c .before .nearest .result) (answer-small (c .before)) .sfits)
     ∙ ap pos (answer (c .before))
     ∙ quarter-above x (c .if1 .left)
@@ -97,6 +102,7 @@ quarter-spec =
     magnitude-requires
     above-zero-requires
     up-to-requires
+    float-to-float-nearest
     nearest-requires
     cast-n
     sub-result

@@ -1,15 +1,13 @@
 -- `num::whole_part` meets its contract: the sum's bits show the whole number (`floor-shown`). Assumes nothing.
 use mathlib.Core.Path.{_∙_}
-use mathlib.Core.Bool.{not}
 use Prim.Native.Nat.{_/_, _^_}
 use lib.Dec.{T}
 use lib.Bits.{and-mask}
-use lib.Ieee.{binary32, binary64, ofBits, add, fits, isNan, toBits}
-use lib.Ieee.Fits.{and-i, fits-widens}
+use lib.Ieee.{binary32, binary64, ofBits, add, fits, toBits}
 use lib.Ieee.Positive.{num, den}
 use denote.Floats.{passes}
 use Rattle.num.specs.Whole.{floor}
-use Rattle.num.proofs.Placed.{Shows, floor-shown, number}
+use Rattle.num.proofs.Placed.{Shows, coarse-itself, floor-shown, widens}
 use Rattle.num.proofs.whole_part.Statement.{statement}
 use Rattle.num.proofs.whole_part.Tie as tie
 
@@ -18,12 +16,12 @@ held c = passes (fits binary32 (c .args .y)) (c .good .0 .1)
 
 shows : (c : tie.Start) → Shows (add binary64 (c .args .y) (ofBits binary64 0x4190_0000_0000_0000)) (floor (num (c .args .y)) (den (c .args .y)))
 unfolding ofBits
-shows c = floor-shown (c .args .y) (held c) (c .pre)
+shows c = floor-shown (c .args .y) (c .pre .0, (c .pre .1, coarse-itself (c .args .y) (held c)))
 
 float-to-float-w : tie.Need-float-to-float-w
 float-to-float-w c =
     let y = c .before .args .y in
-    and-i (fits binary64 y) (not (isNan y)) (fits-widens y (held (c .before))) (number y (num y) (den y) (c .before .pre .0))
+    widens y (num y) (den y) (held (c .before)) (c .before .pre .0)
 
 float-to-bits-result : tie.Need-float-to-bits-result
 float-to-bits-result c = shows (c .before) .0
