@@ -312,7 +312,7 @@ pub fn sets(mode: RenderMode) -> bool
     !mode.antialias
 }
 
-// F1 to F5 as they stand: for a pixel whose colour may turn on the memory's.
+// F1 to F5 as they stand: for a pixel whose colour may turn on the memory's. Numbers 1 to 3 leave no known coverage above 7.
 pub fn meet(mode: RenderMode, combiner: Combiner, source: Source, cell: Cell) -> Cell
     requires { ⌜ (1 ≤ source .count) × (source .count ≤ 8) ⌝ ∗ ⌜ orZero (coverageOf (cell .mark) (cell .coverage)) ≤ 7 ⌝ }
     ensures { λ r. ⌜ r ≡ cellStep mode combiner source cell ⌝ }
@@ -331,17 +331,4 @@ pub fn meet(mode: RenderMode, combiner: Combiner, source: Source, cell: Cell) ->
         coverage: kept_or_known(after, old),
         mark: mark_of(yes, after),
     }
-}
-
-// F1 to F5: the five bytes of a pixel after it is emitted once. Numbers 1 to 3 leave no known coverage above 7.
-pub fn cell_step(mode: RenderMode, combiner: Combiner, source: Source, cell: Cell) -> Cell
-    requires { ⌜ (1 ≤ source .count) × (source .count ≤ 8) ⌝ ∗ ⌜ orZero (coverageOf (cell .mark) (cell .coverage)) ≤ 7 ⌝ }
-    ensures { λ r. ⌜ r ≡ cellStep mode combiner source cell ⌝ }
-{
-    if blender::opaque(mode, source.color.a) {
-        let color = source.color;
-        let own = own_colors(mode, combiner, color);
-        return cover(mode, source.count, own, cell);
-    }
-    meet(mode, combiner, source, cell)
 }
