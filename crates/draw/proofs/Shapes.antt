@@ -32,7 +32,6 @@ use Rattle.rectangle.specs.declared.Sides.{Sides}
 use Rattle.rectangle.specs.Window.{EmptyColumn, EmptyRow}
 use Rattle.raster.specs.declared.Area.{Area}
 use Rattle.raster.specs.declared.Fragment.{Fragment}
-use Rattle.raster.specs.declared.Fragment.the-variants.{Empty, Covered}
 use Rattle.raster.specs.declared.Geometry.{Geometry}
 use Rattle.raster.specs.declared.Geometry.the-variants.{Triangles}
 use Rattle.raster.specs.declared.Scissor.{Scissor}
@@ -45,32 +44,14 @@ use Rattle.raster.specs.Parts.{from}
 use Rattle.raster.proofs.Checked.{AllIn, admitted-in, sorted-near}
 use Rattle.raster.proofs.Inside.{Bounded, area-bounded, inside-area}
 use Rattle.raster.proofs.Kept.{row-kept, rows-kept, rect-row-kept, rect-rows-kept}
-use Rattle.raster.proofs.Masks.{triangle-count, rectangle-count}
 use Rattle.raster.proofs.Parts.{parts-bound}
 use Rattle.frame.specs.Frame.{Frame, Fit}
 use Rattle.paint.specs.Steps.{Drew}
-use Rattle.paint.specs.Pixel.{Counted}
 use Rattle.draw.specs.Parts.{Placed, trianglePixel, triangleRow, rectangleRow}
 use Rattle.paint.proofs.Drawing.{drew-as}
 use Rattle.paint.proofs.Joins.{row-most}
 
 -- ---- a pixel
-module _ (antialias : Bool) (k : Combiner) (o : List Vertex) (e : Edges) (y x : ℕ) where
-  pub counted-triangle : {r : Fragment} → r ≡ triangleFragment antialias k o e y x → Counted r
-  counted-triangle h = subst Counted (sym h) (go (triangleFragment antialias k o e y x) refl)
-    where
-      go : (r : Fragment) → triangleFragment antialias k o e y x ≡ r → Counted r
-      go Empty p = (omega arith, omega arith)
-      go (Covered m r g b a s) p = triangle-count antialias k o e y x p
-
-module _ (antialias : Bool) (c : Color) (sides : Sides) (y x : ℕ) where
-  pub counted-rectangle : {r : Fragment} → r ≡ rectangleFragment antialias c sides y x → Counted r
-  counted-rectangle h = subst Counted (sym h) (go (rectangleFragment antialias c sides y x) refl)
-    where
-      go : (r : Fragment) → rectangleFragment antialias c sides y x ≡ r → Counted r
-      go Empty p = (omega arith, omega arith)
-      go (Covered m r g b a s) p = rectangle-count antialias c sides y x p
-
 module _ {mode : RenderMode} {k : Combiner} {m : ℕ} {f g : Frame} {n : ℕ} where
   pub drew-fragment : (p : ℕ) {r q : Fragment} → r ≡ q → Drew mode k m (emits r p) f g n → Drew mode k m (emits q p) f g n
   drew-fragment p e = drew-as (ap (λ (r : Fragment). emits r p) e)
