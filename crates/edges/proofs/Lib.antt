@@ -5,6 +5,5 @@ pub mod Held
 pub mod Tame
 pub mod Ones
 pub mod Outside
-pub mod Eights
 pub mod Inside
 pub mod Lines

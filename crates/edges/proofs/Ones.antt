@@ -1,4 +1,4 @@
--- A mask is below 256, and one that is not 0 has 1 to 8 samples. Assumes nothing.
+-- The two bits of a row are below 4, and a mask from 1 to 255 has 1 to 8 samples. Assumes nothing.
 use Prim.Native.Nat.{ℕ, _+_, _/_, _≤_, _<_}
 use mathlib.Core.Bool.{Bool, true, false}
 use native.Mathlib.Omega.{arith}
@@ -8,7 +8,7 @@ use lib.Count.{ones, ones-step, ones-le}
 use lib.ListN.{getD}
 use lib.IntN.{ℤ, pos}
 use Rattle.edges.specs.declared.Edges.{Edges}
-use Rattle.edges.specs.Sample.{inside, bitOf, twoOf, pairOf, maskOf, countOf, sampleAt}
+use Rattle.edges.specs.Sample.{inside, bitOf, twoOf, pairOf, countOf, sampleAt}
 
 pub bit-lt : (t : Bool) → bitOf t < 2
 bit-lt true = omega arith
@@ -21,10 +21,6 @@ two-lt l r n = omega (arith, bit-lt (inside l r n), bit-lt (inside l r (n + 4)))
 pub pair-lt : (e : Edges) (x s : ℕ) → pairOf e x s < 4
 unfolding pairOf
 pair-lt e x s = two-lt (getD (e .left) s (pos 0)) (getD (e .right) s (pos 0)) (sampleAt x s)
-
-pub mask-lt : (e : Edges) (x : ℕ) → maskOf e x < 256
-unfolding maskOf
-mask-lt e x = omega (arith, pair-lt e x 0, pair-lt e x 1, pair-lt e x 2, pair-lt e x 3)
 
 ones-pos : (m : ℕ) → 0 < m → 1 ≤ ones m
 ones-pos = bin-ind (λ (m : ℕ). 0 < m → 1 ≤ ones m) (λ h. absurd (none h)) (λ m ih h. by m h ih (decLe 2 m))

@@ -3,9 +3,6 @@ use mathlib.Core.Path.{_≡_, sym, ap, _∙_, subst}
 use Prim.Native.Nat.{ℕ, _+_, _*_, _%_, _^_, _≤_, _<_}
 use native.Mathlib.Omega.{arith}
 use lib.Bits.{bitOr, or-shifted}
-use Rattle.pack.specs.Color.{packColorOf}
-use Rattle.pack.specs.declared.Rgba8.{Rgba8}
-use Rattle.pack.proofs.Channel.{channel-small}
 
 -- a field below bit k beside what stands from bit k up
 beside : (high a k low : ℕ) → high ≡ a * 2 ^ k → low < 2 ^ k → bitOr high low ≡ high + low
@@ -22,8 +19,3 @@ joined r g b t hr hg hb ht =
     ∙ ap (λ (x : ℕ). bitOr x t) (beside (R + G) (r * 32 + g) 6 B (omega arith) (omega arith))
     ∙ beside (R + G + B) (r * 1024 + g * 32 + b) 1 t (omega arith) (omega arith)
     ∙ sums
-
--- sixteen bits
-pub color-small : (c : Rgba8) (coverage threshold : ℕ) → coverage ≤ 7 → packColorOf c coverage threshold < 65536
-unfolding packColorOf
-color-small c coverage threshold h = omega (arith, channel-small (c .r) threshold, channel-small (c .g) threshold, channel-small (c .b) threshold)

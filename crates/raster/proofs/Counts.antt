@@ -9,13 +9,11 @@ use lib.IntN.{natAbs}
 use lib.ListN.{length}
 use Rattle.mode.specs.declared.RenderMode.{RenderMode}
 use Rattle.combiner.specs.declared.Combiner.{Combiner}
-use Rattle.combiner.specs.Combine.{colorOf, fullShade}
 use Rattle.vertex.specs.declared.Vertex.{Vertex}
 use Rattle.vertex.specs.Sorted.{sorted}
 use Rattle.vertex.specs.Shade.{culledOf}
 use Rattle.edges.specs.Edge.{areaOf}
 use Rattle.edges.specs.Span.{triOf, edgesOf}
-use Rattle.rectangle.specs.declared.Sides.{Sides}
 use Rattle.raster.specs.declared.Scissor.{Scissor}
 use Rattle.raster.specs.declared.Fragment.{Fragment}
 use Rattle.raster.specs.declared.Fragment.the-variants.{Empty, Covered}
@@ -23,7 +21,7 @@ use Rattle.raster.specs.declared.Three.{Three}
 use Rattle.raster.specs.declared.Three.the-variants.{Vertices, Absent}
 use Rattle.raster.specs.Parts.{from}
 use Rattle.raster.specs.Area.{rightOf, bottomOf}
-use Rattle.raster.specs.Emitted.{emits, inside, cornerOf, triangleFragment, triangleEmits, threeEmits, rectangleFragment, rectangleEmits}
+use Rattle.raster.specs.Emitted.{emits, inside, cornerOf, triangleFragment, triangleEmits, threeEmits}
 use Rattle.raster.proofs.Parts.{parts-bound}
 
 emits-most : (f : Fragment) (p : ℕ) → length (emits f p) ≤ 1
@@ -40,12 +38,6 @@ module _ (s : Scissor) {w h : ℕ} (wide : w ≤ 1024) (high : h ≤ 1024) where
     where
       row : (y : ℕ) → length (from (pixel y) (s .left) (rightOf s w)) ≤ 1024
       row y = omega (arith, parts-bound (pixel y) 1 (one y) (rightOf s w - s .left) (s .left))
-
-  pub rectangle-most : (m : RenderMode) (k : Combiner) (sides : Sides) → length (rectangleEmits m k s w h sides) ≤ 1048576
-  unfolding rectangleEmits
-  rectangle-most m k sides =
-      inside-most (λ (y x : ℕ). emits (rectangleFragment (m .antialias) (colorOf k fullShade) sides y x) (y * w + x))
-      (λ y x. emits-most (rectangleFragment (m .antialias) (colorOf k fullShade) sides y x) (y * w + x))
 
   pub triangle-most : (m : RenderMode) (k : Combiner) (cull : Bool) (a b c : Vertex) → length (triangleEmits m k cull s w h a b c) ≤ 1048576
   unfolding triangleEmits

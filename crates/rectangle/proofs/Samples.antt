@@ -1,11 +1,11 @@
 -- A mask is the bits of its column and of its row, joined by `&`: sample by sample, a place is in the rectangle if it lies between the sides of both axes. So
--- a mask is a byte, a full column's mask is the row's, and a pixel none of whose samples lies between the sides of one axis has the mask 0. Assumes nothing.
-use mathlib.Core.Path.{_≡_, refl, sym, ap, _∙_, subst⁻¹}
+-- a full column's mask is the row's, and a pixel none of whose samples lies between the sides of one axis has the mask 0. Assumes nothing.
+use mathlib.Core.Path.{_≡_, refl, sym, ap, _∙_}
 use Prim.Native.Nat.{ℕ, _+_, _-_, _*_, _%_, _^_, _<_}
 use native.Mathlib.Nat.{mod-eq-of-lt}
 use native.Mathlib.Omega.{arith}
 use mathlib.Core.Bool.{Bool, true, false, cond, _&&_}
-use lib.Bits.{bitAnd, and-block, and-lt, and-comm, and-mask}
+use lib.Bits.{bitAnd, and-block, and-comm, and-mask}
 use lib.Ieee.{Float}
 use Rattle.rectangle.specs.declared.Sides.{Sides}
 use Rattle.rectangle.specs.Rectangle.{quarters, sampleX, sampleY, withinOf, insideOf, sampleBit, rowBits, rectMask, quarterBit, bitsOfColumn, bitsOfRow}
@@ -87,21 +87,11 @@ module _ (s : Sides) (x y : ℕ) where
         weight (column 3 && row 3) 1,
       ))
 
-column-lt : (s : Sides) (x : ℕ) → bitsOfColumn s x < 256
-unfolding bitsOfColumn
-column-lt s x =
-    let q = quarter-lt (s .left) (s .right) x in
-    omega (arith, q 0, q 1, q 2, q 3)
-
 row-lt : (s : Sides) (y : ℕ) → bitsOfRow s y < 256
 unfolding bitsOfRow
 row-lt s y =
     let q = quarter-lt (s .top) (s .bottom) y in
     omega (arith, q 0, q 1, q 2, q 3)
-
--- A mask is a byte.
-pub mask-lt : (s : Sides) (x y : ℕ) → rectMask s x y < 256
-mask-lt s x y = subst⁻¹ (λ (n : ℕ). n < 256) (rect-and s x y) (and-lt 8 (bitsOfColumn s x) (bitsOfRow s y) (column-lt s x) (row-lt s y))
 
 -- ---- all samples of a column
 pub full-column : (s : Sides) (x : ℕ) → Filled (s .left) (s .right) x → FullColumn s x
