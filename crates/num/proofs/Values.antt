@@ -1,11 +1,11 @@
 -- Zeros among the values of lib.Ieee. Assumes nothing.
-use mathlib.Core.Path.{_≡_, refl, sym, ap, _∙_, subst}
+use mathlib.Core.Path.{_≡_, refl, sym, ap, _∙_}
 use Prim.Native.Nat.{ℕ, zero, suc, _*_, _<_}
 use native.Mathlib.Nat.{zero-mul, eq-of-mul-eq-mul-right, ne-of-gt, zero-lt-suc}
-use mathlib.Core.Bool.{Bool, true, false, not, _&&_, _||_, Bool·beq, true≢false}
+use mathlib.Core.Bool.{Bool, true, false, not, _&&_, _||_, true≢false}
 use borrow.Author.Tests.{eqb-true, eq-eqb}
 use lib.Pow.{pow-pos}
-use lib.IntN.{ℤ, pos}
+use lib.IntN.{ℤ}
 use lib.Dec.{eqb}
 use lib.Ieee.{Float, nan, inf, fin, binary32, up, down, eq, le, div}
 use lib.Ieee.Fits.{up-pos, down-pos}

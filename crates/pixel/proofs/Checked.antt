@@ -1,11 +1,11 @@
 -- What the tests of a call say of its outcome: one law for a call that goes through and one for a call that is turned away. Assumes nothing.
 use Prim.Native.Nat.{ℕ, _≤_, _<_}
-use mathlib.Core.Path.{_≡_, refl, sym, ap, _∙_}
+use mathlib.Core.Path.{_≡_, refl, sym, _∙_}
 use mathlib.Core.Bool.{Bool, true, false, cond, _&&_, true≢false}
 use lib.Dec.{leb}
 use borrow.Author.Tests.{leb-true}
 use Rattle.pack.specs.declared.Writer.{Writer}
-use Rattle.pixel.specs.Refusal.{countOk, coverageOk, widthOk, sizOk, placeOk, writerOk, Outcome, accepted, refused, checked}
+use Rattle.pixel.specs.Refusal.{countOk, coverageOk, widthOk, sizOk, placeOk, writerOk, accepted, refused, checked}
 
 -- what a test of a callee's answer says of what it answers for
 pub told : {r x b : Bool} → r ≡ x → r ≡ b → x ≡ b

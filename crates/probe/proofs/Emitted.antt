@@ -1,8 +1,8 @@
 -- Visiting every pixel of the frame inside the scissor gives a triangle's emitted list: where the triangle is skipped every pixel is empty, and so is a list of
 -- them, and else a pixel is the list's. Assumes nothing.
-use mathlib.Core.Path.{_≡_, refl, sym, ap, _∙_}
+use mathlib.Core.Path.{_≡_, refl, sym, _∙_}
 use mathlib.Core.Bool.{Bool, true, false, cond, not, _||_}
-use mathlib.Core.List.{List, [], _∷_, map}
+use mathlib.Core.List.{[], _∷_, map}
 use Prim.Native.Nat.{ℕ, _+_, _*_}
 use lib.Dec.{eqb}
 use lib.IntN.{natAbs}

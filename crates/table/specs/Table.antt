@@ -5,7 +5,6 @@ use mathlib.Core.Bool.{Bool, true, false}
 use mathlib.Core.List.{List, [], _∷_, map}
 use lib.IntN.{ℤ, pos, negsuc, negℤ}
 use lib.Ieee.{Float, fin}
-use lib.ListN.{getD}
 use Rattle.num.specs.Color.{f0, f1}
 use Rattle.mode.specs.declared.RenderMode.{RenderMode}
 use Rattle.mode.specs.declared.Rgba.{Rgba}

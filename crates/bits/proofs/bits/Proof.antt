@@ -1,5 +1,5 @@
 -- `bits::bits` meets its contract: shifting by pos divides, and the mask of n ones is a remainder. Assumes nothing.
-use mathlib.Core.Path.{_≡_, refl, sym, ap, _∙_}
+use mathlib.Core.Path.{_≡_, ap, _∙_}
 use Prim.Native.Nat.{ℕ, _*_, _/_, _%_, _-_, _^_, _<_}
 use native.Mathlib.Nat.{mod-eq-of-lt, one-mul}
 use native.Mathlib.Omega.{arith}

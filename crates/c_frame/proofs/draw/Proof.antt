@@ -1,10 +1,8 @@
 -- `c_frame::draw` meets its contract: the mode and the geometry from plain values, and the answer back. Assumes nothing.
-use mathlib.Core.Path.{_≡_, ap, _∙_}
+use mathlib.Core.Path.{ap, _∙_}
 use denote.Ref.{now}
 use Rattle.frame.specs.Frame.{frameOf}
-use Rattle.draw.specs.Draw.{DrawArgs, drawArgs, drawAnswer, drawFrame}
-use Rattle.c_types.specs.Convert.{modeOf}
-use Rattle.c_draw.specs.Draws.{geometryFrom}
+use Rattle.draw.specs.Draw.{drawArgs, drawAnswer, drawFrame}
 use Rattle.c_frame.specs.Frames.{drawnAnswer}
 use borrow.Author.Needs.{needs}
 use Rattle.c_frame.proofs.draw.Statement.{statement}

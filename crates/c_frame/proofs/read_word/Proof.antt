@@ -1,5 +1,5 @@
 -- `c_frame::read_word` meets its contract: the byte order from a plain value, and the answer back. Assumes nothing.
-use mathlib.Core.Path.{_≡_, ap, _∙_}
+use mathlib.Core.Path.{ap, _∙_}
 use denote.Ref.{now}
 use Rattle.frame.specs.Frame.{frameOf}
 use Rattle.words.specs.Read.{readArgs, readAnswer}

@@ -1,5 +1,5 @@
 -- `c_frame::read_words` meets its contract: the byte order from a plain value, and the answer back. Assumes nothing.
-use mathlib.Core.Path.{_≡_, _∙_}
+use mathlib.Core.Path.{_∙_}
 use denote.Ref.{now}
 use Rattle.frame.specs.Frame.{frameOf}
 use Rattle.words.specs.Read.{readArgs}

@@ -1,6 +1,6 @@
 -- `num::is_finite` meets its contract: only a NaN and the infinities fail one of the two comparisons. Assumes nothing.
 use mathlib.Core.Path.{_≡_, refl, sym, _∙_}
-use mathlib.Core.Bool.{Bool, true, false, true≢false}
+use mathlib.Core.Bool.{true, false, true≢false}
 use lib.Ieee.{Float, nan, inf, fin, lt, ofBits, div, neg}
 use Rattle.num.specs.Color.{isFinite}
 use Rattle.num.proofs.is_finite.Statement.{statement}

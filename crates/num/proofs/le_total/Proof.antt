@@ -1,5 +1,5 @@
 -- `num::le_total` meets its contract: equal values differ at most in the sign of a zero, which the quotients by them show. Assumes nothing.
-use mathlib.Core.Path.{_≡_, refl, sym, _∙_}
+use mathlib.Core.Path.{_≡_}
 use borrow.Author.Tests.{not-true, not-false}
 use lib.Ieee.{ofBits, ne, eq}
 use Rattle.num.proofs.Values.{same-sign, zeros-by-sign}

@@ -1,6 +1,6 @@
 -- `pixel::blend` meets its contract: both checks, then the blender. Assumes nothing.
 use borrow.Author.Needs.{needs}
-use Rattle.pixel.proofs.Checked.{told, passes, fails, both, second, first, counts, coverages}
+use Rattle.pixel.proofs.Checked.{told, passes, fails, both, second, first}
 use Rattle.pixel.specs.Refusal.{countOk, coverageOk}
 use Rattle.pixel.specs.Calls.{blendCall}
 use Rattle.pixel.proofs.blend.Statement.{statement}

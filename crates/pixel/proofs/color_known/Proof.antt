@@ -1,8 +1,8 @@
 -- `pixel::color_known` meets its contract: both checks, then the blender. Assumes nothing.
 use borrow.Author.Needs.{needs}
-use Rattle.pixel.proofs.Checked.{told, passes, fails, both, second, first, counts, coverages}
-use mathlib.Core.Path.{ap, _∙_}
-use Rattle.pixel.specs.Refusal.{countOk, knownOk, accepted}
+use Rattle.pixel.proofs.Checked.{told, passes, fails, both, second, first}
+use mathlib.Core.Path.{_∙_}
+use Rattle.pixel.specs.Refusal.{countOk, knownOk}
 use Rattle.pixel.specs.Calls.{colorKnownCall}
 use Rattle.pixel.proofs.color_known.Statement.{statement}
 use Rattle.pixel.proofs.color_known.Tie as tie

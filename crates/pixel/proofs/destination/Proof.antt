@@ -1,7 +1,6 @@
 -- `pixel::destination` meets its contract: both checks, then the blender. Assumes nothing.
 use borrow.Author.Needs.{needs}
 use Rattle.pixel.proofs.Checked.{told, passes, fails, both, second, first, counts, coverages}
-use mathlib.Core.Path.{refl}
 use Rattle.pixel.specs.Refusal.{countOk, coverageOk}
 use Rattle.pixel.specs.Calls.{destinationCall}
 use Rattle.pixel.proofs.destination.Statement.{statement}

@@ -1,6 +1,6 @@
 -- `pixel::writer_ok` meets its contract: the four checks, one after the other. Assumes nothing.
 use borrow.Author.Needs.{needs}
-use mathlib.Core.Path.{_≡_, sym}
+use mathlib.Core.Path.{sym}
 use mathlib.Core.Bool.{_&&_}
 use Rattle.pixel.specs.Refusal.{sizOk, widthOk, placeOk}
 use Rattle.pixel.proofs.Checked.{told}

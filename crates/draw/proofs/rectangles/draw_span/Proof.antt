@@ -2,7 +2,7 @@
 use Prim.Native.Nat.{ℕ, _+_, _-_, _*_}
 use native.Mathlib.Nat.{le-trans}
 use native.Mathlib.Omega.{arith}
-use mathlib.Core.Path.{refl, sym, ap, _∙_}
+use mathlib.Core.Path.{refl}
 use Rattle.raster.specs.Emitted.{rectangleFragment}
 use Rattle.frame.specs.Frame.{frameOf}
 use Rattle.draw.specs.Parts.{rectanglePixel}

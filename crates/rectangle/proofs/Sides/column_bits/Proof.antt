@@ -1,5 +1,5 @@
 -- `rectangle::Sides::column_bits` meets its contract: the four quarters of the column, each with its samples' bits. Assumes nothing.
-use Prim.Native.Nat.{ℕ, _<_}
+use Prim.Native.Nat.{_<_}
 use native.Mathlib.Omega.{arith}
 use borrow.Author.Needs.{needs}
 use Rattle.rectangle.specs.Rectangle.{bitsOfColumn}

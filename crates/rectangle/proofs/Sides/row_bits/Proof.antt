@@ -1,5 +1,5 @@
 -- `rectangle::Sides::row_bits` meets its contract: the four quarters of the row, each with its samples' bits. Assumes nothing.
-use Prim.Native.Nat.{ℕ, _<_}
+use Prim.Native.Nat.{_<_}
 use native.Mathlib.Omega.{arith}
 use borrow.Author.Needs.{needs}
 use Rattle.rectangle.specs.Rectangle.{bitsOfRow}
