@@ -13,9 +13,12 @@ magic = 0 ∷ 6 ∷ 1 ∷ 7 ∷ 4 ∷ 2 ∷ 5 ∷ 3 ∷ 3 ∷ 5 ∷ 2 ∷ 4 ∷ 
 abbrev pub bayer : List ℕ
 bayer = 0 ∷ 4 ∷ 1 ∷ 5 ∷ 4 ∷ 0 ∷ 5 ∷ 1 ∷ 3 ∷ 7 ∷ 2 ∷ 6 ∷ 7 ∷ 3 ∷ 6 ∷ 2 ∷ []
 
--- the entry of a square for the pixel in column x and row y
+-- the place in a square of the pixel in column x and row y, and its entry
+abbrev pub placeOf : ℕ → ℕ → ℕ
+placeOf x y = y % 4 * 4 + x % 4
+
 abbrev pub entryAt : List ℕ → ℕ → ℕ → ℕ
-entryAt square x y = getD square (y % 4 * 4 + x % 4) 0
+entryAt square x y = getD square (placeOf x y) 0
 
 -- Noise has no reproducible guest RNG and takes the magic square, as the Rust does. No three bits are above 7.
 unfoldable pub thresholdOf : ℕ → ℕ → ℕ → ℕ

@@ -5,7 +5,7 @@ ghost use lib.Ieee.{binary32, ofBits};
 ghost use Rattle.pack.specs.Color.{packChannelOf, packColorOf};
 ghost use Prim.Native.Nat.{_*_};
 ghost use Rattle.bits.specs.Field.{field};
-ghost use Rattle.pack.specs.Dither.{thresholdOf};
+ghost use Rattle.pack.specs.Dither.{placeOf, thresholdOf};
 ghost use Rattle.pack.specs.Depth.{deepest, range, Within, wordIn, depthWord, depthOf, packDepthOf};
 ghost use Rattle.pack.specs.Writer.{supportedOf, pixelBytesOf, bytesOf, literalOf, bitsOf, colorOf, encodeOf};
 
@@ -84,11 +84,18 @@ pub fn pack_color(rgba: Rgba8, coverage: u8, dither: u8) -> u16
     (r << 11) | (g << 6) | (b << 1) | top
 }
 
+// The pixel's place in a square.
+fn place(x: usize, y: usize) -> usize
+    ensures { λ r. ⌜ r ≡ placeOf x y ⌝ }
+{
+    (y & 3) * 4 + (x & 3)
+}
+
 // The pixel's threshold by the dither mode: 0 and 2 the magic square, 1 Bayer's, else none is rounded up.
 pub fn threshold(rgb_dither: u8, x: usize, y: usize) -> u8
     ensures { λ r. ⌜ r ≡ thresholdOf «rgb_dither» x y ⌝ }
 {
-    let index = (y & 3) * 4 + (x & 3);
+    let index = place(x, y);
     match rgb_dither {
         0 | 2 => MAGIC[index],
         1 => BAYER[index],
@@ -97,7 +104,7 @@ pub fn threshold(rgb_dither: u8, x: usize, y: usize) -> u8
 }
 
 // An entry of a square.
-fn entry(square: u64, index: u32) -> u8
+fn entry(square: u64, index: usize) -> u8
     requires { ⌜ index < 16 ⌝ }
     ensures { λ r. ⌜ r ≡ field square (4 * index) 3 ⌝ }
 {
@@ -110,8 +117,7 @@ fn entry(square: u64, index: u32) -> u8
 pub fn word_threshold(rgb_dither: u8, x: usize, y: usize) -> u8
     ensures { λ r. ⌜ r ≡ thresholdOf «rgb_dither» x y ⌝ }
 {
-    let place = (y & 3) * 4 + (x & 3);
-    let index = place as u32;
+    let index = place(x, y);
     match rgb_dither {
         0 | 2 => entry(MAGIC_WORD, index),
         1 => entry(BAYER_WORD, index),

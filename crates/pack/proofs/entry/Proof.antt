@@ -10,9 +10,6 @@ use Rattle.pack.proofs.entry.Tie as tie
 mul-shift : tie.Need-mul-shift
 mul-shift c = search needs
 
-cast-low : tie.Need-cast-low
-cast-low c = search needs
-
 shr-low : tie.Need-shr-low
 shr-low c = search needs
 
@@ -24,4 +21,4 @@ unfolding field
 returns c = and-mask (c .args .square / 2 ^ (4 * c .args .index)) 3
 
 pub entry-spec : {M : Type 1} → statement M
-entry-spec = tie.close (tie.spec mul-shift cast-low shr-low cast-result returns)
+entry-spec = tie.close (tie.spec mul-shift shr-low cast-result returns)
