@@ -1,7 +1,7 @@
 // The rectangle of writeback.rs `rasterize`: which of a pixel's eight samples it holds, and which columns and rows it can
 // touch. A side is any f32, a NaN or an infinity too.
 ghost use mathlib.Core.Path.{_≡_};
-ghost use Prim.Native.Nat.{_<_, _≤_, min, max};
+ghost use Prim.Native.Nat.{_+_, _*_, _<_, _≤_, min, max};
 ghost use Rattle.rectangle.specs.Rectangle.{withinOf, rectMask, quarterBit, bitsOfColumn, bitsOfRow};
 ghost use Rattle.rectangle.specs.Window.{Untouched, EmptyColumn, EmptyRow, Filled, FullColumn};
 ghost use Rattle.range.specs.Kept.{Kept};
@@ -32,6 +32,18 @@ fn quarter(low: f32, high: f32, n: u32, q: u32) -> u8
 {
     let p = n as f32 + q as f32 * 0.25;
     within(low, high, p) as u8
+}
+
+// The quarters of pixel n of an axis that lie in low..high, by their weights; the last one's is 1.
+fn weighed(low: f32, high: f32, n: u32, a: u8, b: u8, c: u8, times: u8) -> u8
+    requires { ⌜ (n < 1024) × (a + b + c < 255) × ((a + b + c + 1) * times < 256) ⌝ }
+    ensures { λ r. ⌜ r ≡ (quarterBit low high n 0 * a + quarterBit low high n 1 * b + quarterBit low high n 2 * c + quarterBit low high n 3) * times ⌝ }
+{
+    let p = quarter(low, high, n, 0);
+    let q = quarter(low, high, n, 1);
+    let r = quarter(low, high, n, 2);
+    let s = quarter(low, high, n, 3);
+    (p * a + q * b + r * c + s) * times
 }
 
 // n, but at least a and at most b.
@@ -86,13 +98,7 @@ impl Sides {
         requires { ⌜ x < 1024 ⌝ }
         ensures { λ r. ⌜ r ≡ bitsOfColumn self x ⌝ }
     {
-        let left = self.left;
-        let right = self.right;
-        let a = quarter(left, right, x, 0);
-        let b = quarter(left, right, x, 1);
-        let c = quarter(left, right, x, 2);
-        let d = quarter(left, right, x, 3);
-        (a * 8 + c * 4 + b * 2 + d) * 17
+        weighed(self.left, self.right, x, 8, 2, 4, 17)
     }
 
     // The samples of row y that lie between the top and bottom sides.
@@ -100,13 +106,7 @@ impl Sides {
         requires { ⌜ y < 1024 ⌝ }
         ensures { λ r. ⌜ r ≡ bitsOfRow self y ⌝ }
     {
-        let top = self.top;
-        let bottom = self.bottom;
-        let a = quarter(top, bottom, y, 0);
-        let b = quarter(top, bottom, y, 1);
-        let c = quarter(top, bottom, y, 2);
-        let d = quarter(top, bottom, y, 3);
-        (a * 64 + b * 16 + c * 4 + d) * 3
+        weighed(self.top, self.bottom, y, 64, 16, 4, 3)
     }
 
     // The eight samples of pixel (x, y). Bit 7 is row 0's left one.
