@@ -3,16 +3,16 @@
 use mathlib.Core.Path.{_≡_, refl, sym, ap, _∙_}
 use mathlib.Core.Bool.{Bool, true, false, not, _&&_, _||_}
 use mathlib.Core.List.{List, [], _∷_}
-use Prim.Native.Nat.{ℕ, _+_, _*_, _≤_, _<_}
+use Prim.Native.Nat.{ℕ, _+_, _*_, _%_, _≤_, _<_}
 use native.Mathlib.Numerals.{add-one}
 use native.Mathlib.Omega.{arith}
-use borrow.Author.Tests.{leb-true, eqb-true}
+use borrow.Author.Tests.{leb-true, le-leb, lt-leb, eqb-true}
 use lib.Dec.{leb, eqb}
 use lib.ListN.{length, getD, drop, drop-of-length-le}
 use lib.Seq.{drop-cons}
 use Rattle.cell.specs.Marks.{coverageMarked}
 use Rattle.frame.specs.Frame.{Frame}
-use Rattle.frame.specs.Checks.{sizeOk, sizesOk, lengthsOk, markOk, marksOk, every, atMost, coverageUnmarked, frameRefusal}
+use Rattle.frame.specs.Checks.{sizeOk, sizesOk, lengthsOk, markOk, marksOk, every, atMost, frameRefusal}
 use Rattle.frame.proofs.Fits.{both-left, both-right, pixels-le}
 use Rattle.frame.proofs.Tests.{stops, goes-on}
 
@@ -69,16 +69,15 @@ marks-high (c ∷ cs) (m ∷ ms) e p = go (leb m 3) (not (coverageMarked m) || l
     go true false r s h q = refl
     go true true r s h q = h q
 
-pub marks-unmarked : (cs ms : List ℕ) → every (atMost 3) ms ≡ true → every coverageUnmarked ms ≡ true → true ≡ marksOk cs ms
+pub marks-unmarked : (cs ms : List ℕ) → every (atMost 1) ms ≡ true → true ≡ marksOk cs ms
 unfolding every marksOk markOk
-marks-unmarked [] ms p q = refl
-marks-unmarked (c ∷ cs) [] p q = refl
-marks-unmarked (c ∷ cs) (m ∷ ms) p q =
-    let a = leb m 3 in
-    let b = coverageUnmarked m in
-    let r = every (atMost 3) ms in
-    let s = every coverageUnmarked ms in
-    λ i. (sym (both-left a r p) i && (sym (both-left b s q) i || leb c 7)) && marks-unmarked cs ms (both-right a r p) (both-right b s q) i
+marks-unmarked [] ms p = refl
+marks-unmarked (c ∷ cs) [] p = refl
+marks-unmarked (c ∷ cs) (m ∷ ms) p =
+    let l : m ≤ 1 = leb-true m 1 (both-left (leb m 1) (every (atMost 1) ms) p) in
+    let a : leb m 3 ≡ true = le-leb m 3 (omega arith) in
+    let b : coverageMarked m ≡ false = lt-leb 2 (m % 4) (omega arith) in
+    λ i. (sym a i && (not (sym b i) || leb c 7)) && marks-unmarked cs ms (both-right (leb m 1) (every (atMost 1) ms) p) i
 
 pub marks-marked :
     (cs ms : List ℕ) → length cs ≡ length ms → every (atMost 3) ms ≡ true → every coverageMarked ms ≡ true → every (atMost 7) cs ≡ marksOk cs ms

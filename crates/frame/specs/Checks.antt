@@ -35,9 +35,6 @@ every test (n ∷ ns) = test n && every test ns
 abbrev pub atMost : ℕ → ℕ → Bool
 atMost most n = leb n most
 
-abbrev pub coverageUnmarked : ℕ → Bool
-coverageUnmarked mark = not (coverageMarked mark)
-
 -- the first of numbers 1 to 3 that holds
 unfoldable pub frameRefusal : Frame → ℕ → ℕ → ℕ
 frameRefusal f w h =

@@ -6,11 +6,14 @@ ghost use lib.Dec.{eqb};
 ghost use lib.ListN.{length, getD};
 ghost use Rattle.cell.specs.Marks.{coverageMarked};
 ghost use Rattle.frame.specs.Frame.{frameOf};
-ghost use Rattle.frame.specs.Checks.{sizeOk, sizesOk, markOk, marksOk, every, atMost, coverageUnmarked, frameRefusal};
+ghost use Rattle.frame.specs.Checks.{sizeOk, sizesOk, markOk, marksOk, every, atMost, frameRefusal};
 
 const SIZE: u32 = 1024;
 
+// The highest mark, and the highest that marks no coverage.
 const MARK: u8 = 3;
+
+const COLOR_MARK: u8 = 1;
 
 const COVERAGE: u8 = 7;
 
@@ -45,7 +48,7 @@ fn lengths_ok(colors: usize, coverages: usize, marks: usize, pixels: usize) -> b
     marks == pixels
 }
 
-// Every byte is looked at, without a branch, so that the loop has no other exit and many are taken at a time. So it is in the next two.
+// Every byte is looked at, without a branch, so that the loop has no other exit and many are taken at a time. So it is in the next one.
 fn all_at_most(bytes: &[u8], most: u8) -> bool
     ensures { λ r. ⌜ r ≡ every (atMost most) (now (bytes .entry)) ⌝ }
 {
@@ -72,20 +75,6 @@ fn all_marked(marks: &[u8]) -> bool
         i += 1;
     }
     all
-}
-
-fn none_marked(marks: &[u8]) -> bool
-    ensures { λ r. ⌜ r ≡ every coverageUnmarked (now (marks .entry)) ⌝ }
-{
-    let mut none = true;
-    let mut i = 0;
-    while i < marks.len() {
-        let mark = marks[i];
-        let marked = cell::coverage_marked(mark);
-        none = none & !marked;
-        i += 1;
-    }
-    none
 }
 
 // An unmarked coverage is not read.
@@ -124,11 +113,11 @@ fn marks_ok(coverages: &[u8], marks: &[u8]) -> bool
     requires { ⌜ length (now coverages) ≡ length (now marks) ⌝ }
     ensures { λ r. ⌜ r ≡ marksOk (now (coverages .entry)) (now (marks .entry)) ⌝ }
 {
+    if all_at_most(marks, COLOR_MARK) {
+        return true;
+    }
     if !all_at_most(marks, MARK) {
         return false;
-    }
-    if none_marked(marks) {
-        return true;
     }
     if all_marked(marks) {
         return all_at_most(coverages, COVERAGE);
