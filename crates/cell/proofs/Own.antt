@@ -19,10 +19,12 @@ use Rattle.blender.proofs.Solid.{Opaque, opaque, opaque-known, alone-blend}
 use Rattle.blender.proofs.Layers.{Layered, layered, layer-known, layer-blend, Steady, steady, steady-alone, steady-known, steady-doubt, unshaded-blend}
 use Rattle.cell.specs.declared.Cell.{Cell}
 use Rattle.cell.specs.declared.Colors.{Colors}
+use Rattle.cell.specs.declared.Ink.{Ink}
+use Rattle.cell.specs.declared.Ink.the-variants.{Own, Over}
 use Rattle.cell.specs.declared.Source.{Source}
 use Rattle.cell.specs.Marks.{colorMarked, coverageMarked, coverageOf, unknown, markOf}
 use Rattle.cell.specs.Rules.{ruleF1, ruleF2, verdictOf, memoryOf, orZero, ruleF3, ruleF4, freshCoverage, ruleF5, coverageByte, cellStep}
-use Rattle.cell.specs.Own.{ownColors, overColors, coverCell, sevenOf, setsOf, fullAfter, fullCell, ownFull, overFull}
+use Rattle.cell.specs.Own.{ownColors, overColors, coverCell, layCell, inkCell, InkOf, sevenOf, setsOf, fullAfter, fullCell, ownFull, overFull}
 use Rattle.cell.proofs.Alike.{never}
 
 module _ (mode : RenderMode) (k : Combiner) (s : Source) (o : Opaque mode (s .color .a)) where
@@ -59,12 +61,6 @@ module _ (mode : RenderMode) (k : Combiner) (s : Source) (o : Opaque mode (s .co
         mark = markOf (yes i) after;
       }
 
--- an opaque pixel's step
-pub opaque-step :
-    (mode : RenderMode) (k : Combiner) (s : Source) (x : Cell) → opaqueOf mode (s .color .a) ≡ true
-    → coverCell mode (s .count) (ownColors mode k (s .color)) x ≡ cellStep mode k s x
-opaque-step mode k s x h = covers mode k s (opaque mode (s .color .a) h) x
-
 and-false : (b : Bool) → (b && false) ≡ false
 and-false true = refl
 and-false false = refl
@@ -72,6 +68,56 @@ and-false false = refl
 and-true : (b : Bool) → (b && true) ≡ b
 and-true true = refl
 and-true false = refl
+
+-- a colour that is stored if it is known
+stored : (known : Bool) (new told old : Colors) → (known ≡ true → told ≡ new) → cond known new old ≡ cond known told old
+stored true new told old h = sym (h refl)
+stored false new told old h = refl
+
+-- ---- a layered pixel is answered yes where the memory's colour is known, and is never in doubt
+module _ (mode : RenderMode) (k : Combiner) (s : Source) (x : Cell) (o : Layered mode (s .color .a)) where
+  layer-verdict : (c : Coverage) (marked : Bool) → verdictOf mode s c marked ≡ marked
+  unfolding verdictOf ruleF1 ruleF2
+  layer-verdict c marked =
+      (λ i. layer-known o (s .count) c marked i && not (unknown c && mode .antialias && not (o .forced i) && not (reject mode (s .color .a))))
+      ∙ (λ i. marked && not (no (unknown c && mode .antialias) (not (reject mode (s .color .a))) i))
+      ∙ and-true marked
+    where
+      no : (a r : Bool) → (a && false && r) ≡ false
+      no true r = refl
+      no false r = refl
+
+  layer-stored : (c : Coverage) (marked : Bool) → marked ≡ true → ruleF3 mode k s c (memoryOf marked x) ≡ overColors (layerOf mode k (s .color)) (ruleF4 x)
+  unfolding ruleF3 memoryOf overColors
+  layer-stored c marked e =
+      let b = layer-blend mode k (s .color) (memoryOf true x) (s .«shade_alpha») (s .count) (orZero c) o in
+      (λ i. ruleF3 mode k s c (memoryOf (e i) x)) ∙ (λ i. record { red = b .0 i; green = b .1 .0 i; blue = b .1 .1 i })
+
+  lays : layCell mode (s .count) (layerOf mode k (s .color)) x ≡ cellStep mode k s x
+  unfolding cellStep layCell
+  lays =
+      let c = coverageOf (x .mark) (x .coverage) in
+      let marked = colorMarked (x .mark) in
+      let after = ruleF5 mode (s .count) c in
+      let told = ruleF3 mode k s c (memoryOf marked x) in
+      let yes = sym (layer-verdict c marked) in
+      let colors : cond marked (overColors (layerOf mode k (s .color)) (ruleF4 x)) (ruleF4 x) ≡ cond (verdictOf mode s c marked) told (ruleF4 x) =
+      stored marked (overColors (layerOf mode k (s .color)) (ruleF4 x)) told (ruleF4 x) (layer-stored c marked) ∙ (λ i. cond (yes i) told (ruleF4 x)) in
+      λ i.
+      record {
+        red = colors i .red;
+        green = colors i .green;
+        blue = colors i .blue;
+        coverage = coverageByte after (x .coverage);
+        mark = markOf (yes i) after;
+      }
+
+-- a pixel with the ink of its colour
+pub ink-step :
+    (mode : RenderMode) (k : Combiner) (s : Source) (x : Cell) (ink : Ink) → InkOf mode k (s .color) ink → inkCell mode (s .count) ink x ≡ cellStep mode k s x
+unfolding inkCell InkOf
+ink-step mode k s x (Own colors) (o, e) = (λ i. coverCell mode (s .count) (e i) x) ∙ covers mode k s (opaque mode (s .color .a) o) x
+ink-step mode k s x (Over l) (o, e) = (λ i. layCell mode (s .count) (e i) x) ∙ lays mode k s x (layered mode (s .color .a) o)
 
 -- ---- with all eight samples: F5 in two answers that turn on the mode alone
 picked :
@@ -115,10 +161,6 @@ full-rule mode (Known c) h = ap Known (sym (full-known mode c h))
 
 -- a pixel with all samples: whether its colour is known after it, and if so its bytes
 module _ (mode : RenderMode) (k : Combiner) (s : Source) (x : Cell) (n : s .count ≡ 8) (fits : orZero (coverageOf (x .mark) (x .coverage)) ≤ 7) where
-  stored : (known : Bool) (new told old : Colors) → (known ≡ true → told ≡ new) → cond known new old ≡ cond known told old
-  stored true new told old h = sym (h refl)
-  stored false new told old h = refl
-
   full-step :
       (known : Bool) (new : Colors)
       → verdictOf mode s (coverageOf (x .mark) (x .coverage)) (colorMarked (x .mark)) ≡ known
@@ -179,28 +221,10 @@ module _ (mode : RenderMode) (k : Combiner) (s : Source) (x : Cell) (n : s .coun
       go false eo false et h = never h
 
   -- a layered one
-  module _ (o : Layered mode (s .color .a)) where
-    layer-verdict : (c : Coverage) (marked : Bool) → verdictOf mode s c marked ≡ marked
-    unfolding verdictOf ruleF1 ruleF2
-    layer-verdict c marked =
-        (λ i. layer-known o (s .count) c marked i && not (unknown c && mode .antialias && not (o .forced i) && not (reject mode (s .color .a))))
-        ∙ (λ i. marked && not (no (unknown c && mode .antialias) (not (reject mode (s .color .a))) i))
-        ∙ and-true marked
-      where
-        no : (a r : Bool) → (a && false && r) ≡ false
-        no true r = refl
-        no false r = refl
-
-    layer-stored : (c : Coverage) (marked : Bool) → marked ≡ true → ruleF3 mode k s c (memoryOf marked x) ≡ overColors (layerOf mode k (s .color)) (ruleF4 x)
-    unfolding ruleF3 memoryOf overColors
-    layer-stored c marked e =
-        let b = layer-blend mode k (s .color) (memoryOf true x) (s .«shade_alpha») (s .count) (orZero c) o in
-        (λ i. ruleF3 mode k s c (memoryOf (e i) x)) ∙ (λ i. record { red = b .0 i; green = b .1 .0 i; blue = b .1 .1 i })
-
   pub over-full : layeredOf mode (s .color .a) ≡ true → overFull (sevenOf mode) (setsOf mode) (layerOf mode k (s .color)) x ≡ cellStep mode k s x
   over-full h =
       let o = layered mode (s .color .a) h in
-      full-step (colorMarked (x .mark)) _ (layer-verdict o _ _) (layer-stored o _ _)
+      full-step (colorMarked (x .mark)) _ (layer-verdict mode k s x o _ _) (layer-stored mode k s x o _ _)
 
 -- ---- a pixel whose A is not the shade's alpha does not turn on it
 pub unshaded-step :

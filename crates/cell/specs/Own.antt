@@ -1,6 +1,7 @@
 -- Pixels that need less of the rules: one that is opaque, of whose colour the memory has no part, and one with all samples, whose coverage turns on the mode
 -- alone. Definitions only; that they are what the rules give is proofs/Own.
 use Prim.Native.Nat.{ℕ}
+use mathlib.Core.Path.{_≡_}
 use mathlib.Core.Bool.{Bool, true, cond, not, _&&_, _||_}
 use lib.Dec.{eqb}
 use lib.Ieee.{Float, binary32, add, mul}
@@ -12,7 +13,11 @@ use Rattle.blender.specs.declared.Coverage.{Coverage}
 use Rattle.blender.specs.declared.layer.Layer.{Layer}
 use Rattle.blender.specs.declared.Coverage.the-variants.{Unknown, Known}
 use Rattle.blender.specs.Blend.{ownOf}
+use Rattle.blender.specs.Known.{opaqueOf}
+use Rattle.blender.specs.Layer.{layeredOf, layerOf}
 use Rattle.cell.specs.declared.Cell.{Cell}
+use Rattle.cell.specs.declared.Ink.{Ink}
+use Rattle.cell.specs.declared.Ink.the-variants.{Own, Over}
 use Rattle.cell.specs.declared.Colors.{Colors}
 use Rattle.cell.specs.Marks.{colorMarked, coverageMarked, coverageOf, markOf}
 use Rattle.cell.specs.Rules.{unit, ruleF4, ruleF5, coverageByte}
@@ -42,6 +47,29 @@ coverCell mode n colors x =
       coverage = coverageByte after (x .coverage);
       mark = markOf true after;
     }
+
+-- F5, with the colour known where it was
+unfoldable pub layCell : RenderMode → ℕ → Layer → Cell → Cell
+layCell mode n l x =
+    let known = colorMarked (x .mark) in
+    let colors = cond known (overColors l (ruleF4 x)) (ruleF4 x) in
+    let after = ruleF5 mode n (coverageOf (x .mark) (x .coverage)) in
+    record {
+      red = colors .red;
+      green = colors .green;
+      blue = colors .blue;
+      coverage = coverageByte after (x .coverage);
+      mark = markOf known after;
+    }
+
+unfoldable pub inkCell : RenderMode → ℕ → Ink → Cell → Cell
+inkCell mode n (Own colors) x = coverCell mode n colors x
+inkCell mode n (Over l) x = layCell mode n l x
+
+-- the ink of a colour
+unfoldable pub InkOf : RenderMode → Combiner → Rgba → Ink → Type 0
+InkOf mode k color (Own colors) = (opaqueOf mode (color .a) ≡ true) × (colors ≡ ownColors mode k color)
+InkOf mode k color (Over l) = (layeredOf mode (color .a) ≡ true) × (l ≡ layerOf mode k color)
 
 -- ---- with all eight samples
 

@@ -4,7 +4,7 @@ ghost use mathlib.Core.Path.{_≡_};
 ghost use mathlib.Core.Bool.{cond};
 ghost use Prim.Native.Nat.{_≤_};
 ghost use Rattle.cell.specs.Marks.{colorMarked, coverageMarked, coverageOf, unknown, markOf};
-ghost use Rattle.cell.specs.Own.{ownColors, overByte, overColors, coverCell, sevenOf, setsOf};
+ghost use Rattle.cell.specs.Own.{ownColors, overByte, overColors, coverCell, layCell, inkCell, sevenOf, setsOf};
 ghost use Rattle.cell.specs.Rules.{ruleF2, verdictOf, unit, memoryOf, orZero, ruleF3, ruleF4, freshCoverage, ruleF5, coverageByte, cellStep};
 use blender::Coverage;
 use blender::layer::Layer;
@@ -26,6 +26,12 @@ pub struct Colors {
     pub red: u8,
     pub green: u8,
     pub blue: u8,
+}
+
+// What is stored of a pixel whose colour needs little of the memory: the bytes of an opaque one, or a layer over the memory's colour.
+pub enum Ink {
+    Own(Colors),
+    Over(Layer),
 }
 
 // An emitted pixel: its combined colour, its shade alpha and its number of samples.
@@ -268,7 +274,7 @@ pub fn over_colors(layer: Layer, memory: Colors) -> Colors
 }
 
 // An opaque pixel with these colours: F5 alone meets the memory.
-pub fn cover(mode: RenderMode, count: u8, colors: Colors, cell: Cell) -> Cell
+fn cover(mode: RenderMode, count: u8, colors: Colors, cell: Cell) -> Cell
     requires { ⌜ (1 ≤ count) × (count ≤ 8) ⌝ ∗ ⌜ orZero (coverageOf (cell .mark) (cell .coverage)) ≤ 7 ⌝ }
     ensures { λ r. ⌜ r ≡ coverCell mode count colors cell ⌝ }
 {
@@ -281,6 +287,50 @@ pub fn cover(mode: RenderMode, count: u8, colors: Colors, cell: Cell) -> Cell
         blue: colors.blue,
         coverage: kept_or_known(after, old),
         mark: mark_of(true, after),
+    }
+}
+
+// The memory's bytes under a layer, where they are known.
+fn laid_colors(known: bool, layer: Layer, memory: Colors) -> Colors
+    ensures { λ r. ⌜ r ≡ cond known (overColors layer memory) memory ⌝ }
+{
+    if known {
+        return over_colors(layer, memory);
+    }
+    memory
+}
+
+// A layered pixel: the colour is known where it was, and F5.
+fn lay(mode: RenderMode, count: u8, layer: Layer, cell: Cell) -> Cell
+    requires { ⌜ (1 ≤ count) × (count ≤ 8) ⌝ ∗ ⌜ orZero (coverageOf (cell .mark) (cell .coverage)) ≤ 7 ⌝ }
+    ensures { λ r. ⌜ r ≡ layCell mode count layer cell ⌝ }
+{
+    let old = cell.coverage;
+    let mark = cell.mark;
+    let coverage = coverage_of(mark, old);
+    let known = color_marked(mark);
+    let red = cell.red;
+    let green = cell.green;
+    let blue = cell.blue;
+    let colors = laid_colors(known, layer, Colors { red, green, blue });
+    let after = next_coverage(mode, count, coverage);
+    Cell {
+        red: colors.red,
+        green: colors.green,
+        blue: colors.blue,
+        coverage: kept_or_known(after, old),
+        mark: mark_of(known, after),
+    }
+}
+
+// A pixel with this ink.
+pub fn apply(mode: RenderMode, count: u8, ink: Ink, cell: Cell) -> Cell
+    requires { ⌜ (1 ≤ count) × (count ≤ 8) ⌝ ∗ ⌜ orZero (coverageOf (cell .mark) (cell .coverage)) ≤ 7 ⌝ }
+    ensures { λ r. ⌜ r ≡ inkCell mode count ink cell ⌝ }
+{
+    match ink {
+        Ink::Own(colors) => cover(mode, count, colors, cell),
+        Ink::Over(layer) => lay(mode, count, layer, cell),
     }
 }
 

@@ -8,14 +8,12 @@ ghost use Rattle.frame.specs.Frame.{Fit, frameOf};
 ghost use Rattle.paint.specs.Steps.{Drew, stepFrame};
 ghost use lib.Ieee.{Float};
 ghost use Rattle.paint.specs.Pixel.{emitOf, Counted, Room};
-ghost use mathlib.Core.Bool.{true};
 ghost use Rattle.mode.specs.declared.Rgba.{Rgba};
 ghost use Rattle.combiner.specs.declared.Combiner.{Combiner};
-ghost use Rattle.blender.specs.Known.{opaqueOf};
-ghost use Rattle.cell.specs.Own.{ownColors};
+ghost use Rattle.cell.specs.Own.{InkOf};
 ghost use Rattle.paint.specs.Pen.{Even, ownPixel};
 use crate::pen::Pen;
-use cell::Colors;
+use cell::Ink;
 use cell::Source;
 use combiner::Combiner;
 use mode::RenderMode;
@@ -48,22 +46,22 @@ pub fn step(
     frame::put_cell(colors, coverages, marks, pixel, after);
 }
 
-// An opaque pixel with these colours, those of any combiner and colour that give them. Its shade alpha has no part in what is stored.
-pub fn cover(
+// A pixel with this ink, that of any combiner and colour whose it is. Its shade alpha has no part in what is stored.
+pub fn put_ink(
     colors: &mut [u8],
     coverages: &mut [u8],
     marks: &mut [u8],
     mode: RenderMode,
-    own: Colors,
+    ink: Ink,
     mask: u8,
     pixel: usize,
 )
     requires { ⌜ (1 ≤ countOf mask) × (countOf mask ≤ 8) ⌝ ∗ ⌜ pixel < length (now marks) ⌝ ∗ ⌜ Fit (length (now marks)) (frameOf (now colors) (now coverages) (now marks)) ⌝ }
-    ensures { λ r. ⌜ ((k : Combiner) (color : Rgba) (shade : Float) → opaqueOf mode (color .a) ≡ true → own ≡ ownColors mode k color → frameOf (now (colors .exit)) (now (coverages .exit)) (now (marks .exit)) ≡ stepFrame mode k (frameOf (now (colors .entry)) (now (coverages .entry)) (now (marks .entry))) (emitOf pixel mask color shade)) ⌝ }
+    ensures { λ r. ⌜ ((k : Combiner) (color : Rgba) (shade : Float) → InkOf mode k color ink → frameOf (now (colors .exit)) (now (coverages .exit)) (now (marks .exit)) ≡ stepFrame mode k (frameOf (now (colors .entry)) (now (coverages .entry)) (now (marks .entry))) (emitOf pixel mask color shade)) ⌝ }
 {
     let before = frame::known_cell(colors, coverages, marks, pixel);
     let count = edges::count(mask);
-    let after = cell::cover(mode, count, own, before);
+    let after = cell::apply(mode, count, ink, before);
     frame::put_cell(colors, coverages, marks, pixel, after);
 }
 
@@ -83,7 +81,15 @@ fn emit_own(
         return 0;
     }
     if pen.opaque {
-        cover(colors, coverages, marks, pen.mode, pen.own, mask, pixel);
+        let own = pen.own;
+        let ink = Ink::Own(own);
+        put_ink(colors, coverages, marks, pen.mode, ink, mask, pixel);
+        return 1;
+    }
+    if pen.layered {
+        let layer = pen.layer;
+        let ink = Ink::Over(layer);
+        put_ink(colors, coverages, marks, pen.mode, ink, mask, pixel);
         return 1;
     }
     step(

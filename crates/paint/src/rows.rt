@@ -14,10 +14,13 @@ ghost use Rattle.paint.specs.Pen.{Inked, Even, Own, shadedPixel, shadedA
 use crate::fill::fill_row;
 use crate::pen::Pen;
 use crate::pen::bytes_of;
-use crate::pixels::cover;
 use crate::pixels::own_pixel;
+use crate::pixels::put_ink;
 use crate::pixels::step;
+use blender::layer::layer_of;
+use blender::layer::layered;
 use cell::Colors;
+use cell::Ink;
 use combiner::Combiner;
 use combiner::mixer::Mixer;
 use edges::Edges;
@@ -68,7 +71,13 @@ fn draw_pixel(
     let pixel = y * width + x;
     if blender::opaque(mode, color.a) {
         let bytes = bytes_of(plain, own, color);
-        cover(colors, coverages, marks, mode, bytes, mask, pixel as usize);
+        let ink = Ink::Own(bytes);
+        put_ink(colors, coverages, marks, mode, ink, mask, pixel as usize);
+        return 1;
+    }
+    if layered(mode, color.a) {
+        let ink = Ink::Over(layer_of(mode, combiner, color));
+        put_ink(colors, coverages, marks, mode, ink, mask, pixel as usize);
         return 1;
     }
     step(

@@ -1,19 +1,18 @@
--- `cover` meets its contract: what `cell::cover` answers of what is known is stored as far as it is known, which is a step of the frame (`stored-known`). Assumes nothing.
+-- `put_ink` meets its contract: what `cell::apply` answers of what is known is stored as far as it is known, which is a step of the frame (`stored-known`). Assumes nothing.
 use Prim.Native.Nat.{ℕ, _≤_}
 use mathlib.Core.Path.{sym, subst, _∙_}
 use native.Mathlib.Omega.{arith}
 use denote.Ref.{now}
 use Rattle.cell.specs.declared.Cell.{Cell}
 use Rattle.cell.specs.declared.Source.{Source}
-use Rattle.cell.specs.Own.{coverCell}
-use Rattle.cell.proofs.Own.{opaque-step}
+use Rattle.cell.proofs.Own.{ink-step}
 use Rattle.cell.specs.Marks.{coverageOf}
 use Rattle.cell.specs.Rules.{orZero}
 use Rattle.frame.specs.Frame.{frameOf, cellAt}
 use Rattle.paint.proofs.Steps.{known-sound, stored-known}
 use borrow.Author.Needs.{needs}
-use Rattle.paint.proofs.pixels.cover.Statement.{statement}
-use Rattle.paint.proofs.pixels.cover.Tie as tie
+use Rattle.paint.proofs.pixels.put_ink.Statement.{statement}
+use Rattle.paint.proofs.pixels.put_ink.Tie as tie
 
 known-cell-requires : tie.Need-known-cell-requires
 known-cell-requires c κs = search needs
@@ -21,8 +20,8 @@ known-cell-requires c κs = search needs
 count-requires : tie.Need-count-requires
 count-requires c κs = search needs
 
-cover-requires : tie.Need-cover-requires
-cover-requires c κs =
+apply-requires : tie.Need-apply-requires
+apply-requires c κs =
     let s = c .before .before .before .before .before .before .before .before in
     let a = s .args in
     let f = frameOf (now (a .colors)) (now (a .coverages)) (now (a .marks)) in (
@@ -44,7 +43,7 @@ same-length-3 : tie.Need-same-length-3
 same-length-3 c = search needs
 
 returns : tie.Need-returns
-returns c = λ k color shade o e.
+returns c = λ k color shade o.
     let s = c .before .before .before .before .before .before .before .before .before .before .before .before .before .before .before .before .before .before .before in
     let a = s .args in
     let n = c .before .before .before .before .before .before .before .before .before .before .before .count .result in
@@ -53,18 +52,18 @@ returns c = λ k color shade o e.
     stored-known _ _ _ _ _ _ _
     (c .before .before .before .before .before .before .before .before .before .before .before .count .ensures)
     (c .before .before .before .before .before .before .before .before .before .before .before .before .known-cell .ensures)
-    (c .before .before .before .before .before .before .before .before .before .before .cover .ensures ∙ (λ i. coverCell (a .mode) n (e i) b) ∙ opaque-step (a .mode) k source b o)
+    (c .before .before .before .before .before .before .before .before .before .before .apply .ensures ∙ ink-step (a .mode) k source b (a .ink) o)
     (c .before .before .before .before .before .before .put-cell .ensures)
     (omega (arith, s .pre .1 .0, s .pre .1 .1 .colors))
     (omega (arith, s .pre .1 .0, s .pre .1 .1 .coverages))
 
-pub cover-spec : {M : Type 1} → statement M
-cover-spec =
+pub put-ink-spec : {M : Type 1} → statement M
+put-ink-spec =
     tie.close
     (tie.spec
     known-cell-requires
     count-requires
-    cover-requires
+    apply-requires
     put-cell-requires
     same-length
     same-length-2
