@@ -1,5 +1,8 @@
 -- `read_halfword` meets its contract: the bytes of the pixel packed at its threshold.
+use mathlib.Core.Path.{ap, _∙_}
 use borrow.Author.Needs.{needs}
+use Rattle.pack.specs.Color.{packColorOf}
+use Rattle.pack.specs.Writer.{bytesOf}
 use Rattle.words.proofs.runs.read_halfword.Statement.{statement}
 use Rattle.words.proofs.runs.read_halfword.Tie as tie
 
@@ -34,7 +37,7 @@ encode-u16-requires : tie.Need-encode-u16-requires
 encode-u16-requires c κs = search needs
 
 returns : tie.Need-returns
-returns c = cc
+returns c = c .encode-u16 .ensures ∙ ap (bytesOf _) (c .before .pack-color .ensures ∙ ap (packColorOf _ _) (c .before .before .word-threshold .ensures))
 
 pub read-halfword-spec : {M : Type 1} → statement M
 read-halfword-spec =
