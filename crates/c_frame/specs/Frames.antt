@@ -1,7 +1,7 @@
 -- The answers of a draw, of a word read and of a run of words as C has them. Definitions only.
 use Rattle.draw.specs.Draw.{DrawAnswer}
 use Rattle.words.specs.Read.{WordAnswer}
-use Rattle.words.specs.Run.{RunAnswer}
+use Rattle.runs.specs.Run.{RunAnswer}
 use Rattle.c_answers.specs.declared.Answer.{Answer}
 use Rattle.c_frame.specs.declared.DrawnAnswer.{DrawnAnswer}
 use Rattle.c_frame.specs.declared.RanAnswer.{RanAnswer}

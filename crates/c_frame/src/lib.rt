@@ -5,7 +5,7 @@ ghost use Rattle.frame.specs.Frame.{frameOf};
 ghost use Rattle.draw.specs.Draw.{drawArgs, drawnMeans, drawAnswer, drawFrame};
 ghost use mathlib.Core.List.{[]};
 ghost use Rattle.words.specs.Read.{readArgs, wordMeans, readAnswer};
-ghost use Rattle.words.specs.Run.{runMeans, runAnswer};
+ghost use Rattle.runs.specs.Run.{runMeans, runAnswer};
 ghost use Rattle.c_types.specs.Convert.{modeOf, encodingOf};
 ghost use Rattle.c_draw.specs.Draws.{geometryFrom};
 ghost use Rattle.c_frame.specs.Frames.{drawnAnswer, wordAnswer, ranAnswer};
@@ -18,7 +18,7 @@ use c_types::render_mode;
 use draw::Drawn;
 use mode::CombinerUniform;
 use raster::Scissor;
-use words::Run;
+use runs::Run;
 use words::Word;
 
 // Document 01's number and the count of pixels emitted, with repeats.
@@ -157,7 +157,7 @@ pub fn read_words(
     ensures { λ r. ⌜ r ≡ ranAnswer (runAnswer (readArgs first fmt siz «rgb_dither» (encodingOf «big_endian»)) width height (frameOf (now (colors .entry)) (now (coverages .entry)) (now (marks .entry))) (now (words .entry)) (now (numbers .entry))) ⌝ ∗ ⌜ now (words .exit) ≡ runAnswer (readArgs first fmt siz «rgb_dither» (encodingOf «big_endian»)) width height (frameOf (now (colors .entry)) (now (coverages .entry)) (now (marks .entry))) (now (words .entry)) (now (numbers .entry)) .words ⌝ ∗ ⌜ now (numbers .exit) ≡ runAnswer (readArgs first fmt siz «rgb_dither» (encodingOf «big_endian»)) width height (frameOf (now (colors .entry)) (now (coverages .entry)) (now (marks .entry))) (now (words .entry)) (now (numbers .entry)) .numbers ⌝ }
 {
     let order = byte_order(big_endian);
-    let answer = words::read_words(
+    let answer = runs::read_words(
         width,
         height,
         colors,

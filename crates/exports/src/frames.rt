@@ -3,7 +3,7 @@ ghost use mathlib.Core.Path.{_≡_};
 ghost use Rattle.frame.specs.Frame.{frameOf};
 ghost use Rattle.draw.specs.Draw.{drawArgs, drawAnswer, drawFrame};
 ghost use Rattle.words.specs.Read.{readArgs, readAnswer};
-ghost use Rattle.words.specs.Run.{runAnswer};
+ghost use Rattle.runs.specs.Run.{runAnswer};
 ghost use Rattle.c_types.specs.Convert.{modeOf, encodingOf};
 ghost use Rattle.c_draw.specs.Draws.{geometryFrom};
 ghost use Rattle.c_frame.specs.Frames.{drawnAnswer, wordAnswer, ranAnswer};

@@ -29,8 +29,8 @@ use Rattle.paint.specs.Steps.{sourceOf, stepFrame, drawList}
 use Rattle.frame.specs.Checks.{frameRefusal, orElse}
 use Rattle.draw.specs.Checks.{scissorOk, inputsOk, entryRefusal}
 use Rattle.draw.specs.Draw.{DrawArgs, Plan, emittedBy, admittedPlan, madePlan, refuseOr, planOf, answerBy, frameBy, drawAnswer, drawFrame}
-use Rattle.words.specs.Run.{readAt, RunAnswer, runBy, runAnswer}
-use Rattle.words.proofs.Answers.{answers-same}
+use Rattle.runs.specs.Run.{readAt, RunAnswer, runBy, runAnswer}
+use Rattle.runs.proofs.Answers.{answers-same}
 use Rattle.words.specs.Read.{ReadArgs, writerOf, wordRefusal, readRefusal, wordOf, wordOr, readAnswer}
 use Rattle.secrecy.specs.Runs.{Call, Answer, Said, answerTo, frameAfter, answers, after, verdictAt, verdicts, saidByPlan, saidBy, said, lastAt, knownAt, Secret}
 use Rattle.frame.specs.Alike.{Alike}

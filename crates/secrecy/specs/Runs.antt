@@ -16,7 +16,7 @@ use Rattle.frame.specs.Alike.{Alike}
 use Rattle.paint.specs.Steps.{sourceOf, stepFrame}
 use Rattle.draw.specs.Draw.{DrawArgs, Plan, planOf, DrawAnswer, drawAnswer, drawFrame}
 use Rattle.words.specs.Read.{ReadArgs, WordAnswer, readAnswer}
-use Rattle.words.specs.Run.{RunAnswer, runAnswer}
+use Rattle.runs.specs.Run.{RunAnswer, runAnswer}
 
 -- ---- a list of calls
 

@@ -1,7 +1,2 @@
--- Laws of a word read and of a run of them, which the proofs of their functions share.
+-- Laws of a word read, which the proofs of its functions and of a run's share.
 pub mod Reading
-pub mod Entries
-pub mod Answers
-pub mod Columns
-pub mod Along
-pub mod Ran

@@ -58,7 +58,7 @@ pub use vertex::Vertex;
 // The frame.
 pub use draw::Drawn;
 pub use draw::draw;
-pub use words::Run;
+pub use runs::Run;
+pub use runs::read_words;
 pub use words::Word;
 pub use words::read_word;
-pub use words::read_words;

@@ -3,7 +3,7 @@ use mathlib.Core.Path.{_∙_}
 use denote.Ref.{now}
 use Rattle.frame.specs.Frame.{frameOf}
 use Rattle.words.specs.Read.{readArgs}
-use Rattle.words.specs.Run.{runAnswer}
+use Rattle.runs.specs.Run.{runAnswer}
 use Rattle.c_frame.proofs.Runs.{ran-as}
 use borrow.Author.Needs.{needs}
 use Rattle.c_frame.proofs.read_words.Statement.{statement}

@@ -1,0 +1,3 @@
+-- The definitions that the contracts of `runs` cite.
+pub mod Run
+pub mod Entries

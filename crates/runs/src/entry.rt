@@ -1,0 +1,181 @@
+// The entries of a run of words. What does not turn on the pixel is asked before; column and row are counted along, not divided out. A colour byte is read after
+// number 10 let it through, and a coverage only for 16 bits, where number 10 asks its mark.
+ghost use mathlib.Core.Path.{_≡_};
+ghost use Prim.Native.Nat.{ℕ, _+_, _*_, _<_, _≤_};
+ghost use lib.ListN.{length, getD};
+ghost use Rattle.frame.specs.Frame.{Fit, frameOf, cellAt};
+ghost use Rattle.runs.specs.Run.{oneIf, countOf, answersFrom};
+ghost use Rattle.runs.specs.Entries.{entriesOf, putEntry, Matched, Wrote, answerOf, refusedBy, colorAt, halfword, byteOf, wordAt, answerAt, answerIn, At};
+use pack::Bytes2;
+use pack::FramebufferEncoding;
+use pack::Rgba8;
+
+// The column and row of a pixel.
+pub struct Place {
+    pub x: usize,
+    pub y: usize,
+}
+
+fn put_entry(words: &mut [u8], numbers: &mut [u8], i: usize, number: u8, word: Bytes2)
+    requires { ⌜ i < length (now numbers) ⌝ ∗ ⌜ Matched (length (now numbers)) (entriesOf (now words) (now numbers)) ⌝ }
+    ensures { λ r. ⌜ entriesOf (now (words .exit)) (now (numbers .exit)) ≡ putEntry (entriesOf (now (words .entry)) (now (numbers .entry))) i (answerOf number word) ⌝ }
+{
+    let at = 2 * i;
+    let next = at + 1;
+    words[at] = word.0;
+    words[next] = word.1;
+    numbers[i] = number;
+}
+
+// The entries from `start` up to `end`, turned away with one number.
+pub fn fill(words: &mut [u8], numbers: &mut [u8], start: usize, end: usize, number: u8)
+    requires { ⌜ end ≤ length (now numbers) ⌝ ∗ ⌜ Matched (length (now numbers)) (entriesOf (now words) (now numbers)) ⌝ }
+    ensures { λ r. ⌜ Wrote (λ (i : ℕ). refusedBy number) start end (length (now (numbers .entry))) (entriesOf (now (words .entry)) (now (numbers .entry))) (entriesOf (now (words .exit)) (now (numbers .exit))) ⌝ }
+{
+    let none = Bytes2(0, 0);
+    for i in start..end {
+        put_entry(words, numbers, i, number, none);
+    }
+}
+
+// A pixel of 16 bits.
+fn read_halfword(
+    colors: &[u8],
+    coverages: &[u8],
+    pixel: usize,
+    place: Place,
+    rgb_dither: u8,
+    encoding: FramebufferEncoding,
+) -> Bytes2
+    requires { ⌜ (3 * pixel + 2 < length (now colors)) × (pixel < length (now coverages)) × (getD (now coverages) pixel 0 ≤ 7) ⌝ }
+    ensures { λ r. ⌜ r ≡ halfword (place .x) (place .y) «rgb_dither» encoding (colorAt (now (colors .entry)) pixel) (getD (now (coverages .entry)) pixel 0) ⌝ }
+{
+    let red_at = 3 * pixel;
+    let green_at = red_at + 1;
+    let blue_at = red_at + 2;
+    let r = colors[red_at];
+    let g = colors[green_at];
+    let b = colors[blue_at];
+    let coverage = coverages[pixel];
+    let rgba = Rgba8 { r, g, b, a: 0 };
+    let threshold = pack::word_threshold(rgb_dither, place.x, place.y);
+    let word = pack::pack_color(rgba, coverage, threshold);
+    encoding.encode_u16(word)
+}
+
+// A pixel of 8 bits: red in even columns, green in odd ones.
+fn read_byte(colors: &[u8], pixel: usize, x: usize) -> Bytes2
+    requires { ⌜ 3 * pixel + 2 < length (now colors) ⌝ }
+    ensures { λ r. ⌜ r ≡ byteOf x (colorAt (now (colors .entry)) pixel) ⌝ }
+{
+    let red_at = 3 * pixel;
+    let green_at = red_at + 1;
+    if x % 2 == 0 {
+        let red = colors[red_at];
+        return Bytes2(red, 0);
+    }
+    let green = colors[green_at];
+    Bytes2(green, 0)
+}
+
+fn read_at(
+    colors: &[u8],
+    coverages: &[u8],
+    siz: u8,
+    pixel: usize,
+    place: Place,
+    rgb_dither: u8,
+    encoding: FramebufferEncoding,
+) -> Bytes2
+    requires { ⌜ (3 * pixel + 2 < length (now colors)) × (pixel < length (now coverages)) × (siz ≡ 2 → getD (now coverages) pixel 0 ≤ 7) ⌝ }
+    ensures { λ r. ⌜ r ≡ wordAt siz (place .x) (place .y) «rgb_dither» encoding (colorAt (now (colors .entry)) pixel) (getD (now (coverages .entry)) pixel 0) ⌝ }
+{
+    if siz == 2 {
+        return read_halfword(colors, coverages, pixel, place, rgb_dither, encoding);
+    }
+    read_byte(colors, pixel, place.x)
+}
+
+// Entry i, of a pixel that numbers 1 to 9 let through: 1 for a word, 0 for number 10.
+fn read_entry(
+    colors: &[u8],
+    coverages: &[u8],
+    marks: &[u8],
+    siz: u8,
+    pixel: usize,
+    place: Place,
+    rgb_dither: u8,
+    encoding: FramebufferEncoding,
+    words: &mut [u8],
+    numbers: &mut [u8],
+    i: usize,
+) -> u64
+    requires { ⌜ pixel < length (now marks) ⌝ ∗ ⌜ Fit (length (now marks)) (frameOf (now colors) (now coverages) (now marks)) ⌝ ∗ ⌜ i < length (now numbers) ⌝ ∗ ⌜ Matched (length (now numbers)) (entriesOf (now words) (now numbers)) ⌝ }
+    ensures { λ r. ⌜ entriesOf (now (words .exit)) (now (numbers .exit)) ≡ putEntry (entriesOf (now (words .entry)) (now (numbers .entry))) i (answerAt siz (place .x) (place .y) «rgb_dither» encoding (cellAt (frameOf (now (colors .entry)) (now (coverages .entry)) (now (marks .entry))) pixel)) ⌝ ∗ ⌜ r ≡ oneIf (answerAt siz (place .x) (place .y) «rgb_dither» encoding (cellAt (frameOf (now (colors .entry)) (now (coverages .entry)) (now (marks .entry))) pixel) .number) ⌝ }
+{
+    let mark = marks[pixel];
+    if !words::is_readable(mark, siz) {
+        let none = Bytes2(0, 0);
+        put_entry(words, numbers, i, 10, none);
+        return 0;
+    }
+    let word = read_at(colors, coverages, siz, pixel, place, rgb_dither, encoding);
+    put_entry(words, numbers, i, 0, word);
+    1
+}
+
+// The place of the next pixel.
+fn next_place(place: Place, width: usize) -> Place
+    requires { ⌜ place .x < width ⌝ ∗ ⌜ place .y * width + place .x ≤ 1048576 ⌝ }
+    ensures { λ r. ⌜ At width (place .y * width + place .x + 1) r ⌝ }
+{
+    let x = place.x + 1;
+    let y = place.y;
+    if x < width {
+        return Place { x, y };
+    }
+    Place { x: 0, y: y + 1 }
+}
+
+// The first `count` entries, whose pixels are there.
+pub fn read_entries(
+    width: usize,
+    colors: &[u8],
+    coverages: &[u8],
+    marks: &[u8],
+    first: usize,
+    siz: u8,
+    rgb_dither: u8,
+    encoding: FramebufferEncoding,
+    words: &mut [u8],
+    numbers: &mut [u8],
+    count: usize,
+) -> u64
+    requires { ⌜ (0 < width) × (0 < count → first + count ≤ length (now marks)) × (length (now marks) ≤ 1048576) × (count ≤ length (now numbers)) ⌝ ∗ ⌜ Fit (length (now marks)) (frameOf (now colors) (now coverages) (now marks)) ⌝ ∗ ⌜ Matched (length (now numbers)) (entriesOf (now words) (now numbers)) ⌝ }
+    ensures { λ r. ⌜ Wrote (λ (i : ℕ). answerIn width siz «rgb_dither» encoding (frameOf (now (colors .entry)) (now (coverages .entry)) (now (marks .entry))) (first + i)) 0 count (length (now (numbers .entry))) (entriesOf (now (words .entry)) (now (numbers .entry))) (entriesOf (now (words .exit)) (now (numbers .exit))) ⌝ ∗ ⌜ r ≡ countOf (answersFrom (λ (i : ℕ). answerIn width siz «rgb_dither» encoding (frameOf (now (colors .entry)) (now (coverages .entry)) (now (marks .entry))) (first + i)) 0 count) ⌝ }
+{
+    let mut n: u64 = 0;
+    let mut place = Place {
+        x: first % width,
+        y: first / width,
+    };
+    for i in 0..count {
+        let pixel = first + i;
+        let read = read_entry(
+            colors,
+            coverages,
+            marks,
+            siz,
+            pixel,
+            place,
+            rgb_dither,
+            encoding,
+            words,
+            numbers,
+            i,
+        );
+        n += read;
+        place = next_place(place, width);
+    }
+    n
+}
