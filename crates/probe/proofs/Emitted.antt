@@ -17,7 +17,7 @@ use Rattle.edges.specs.Span.{triOf, edgesOf}
 use Rattle.raster.specs.declared.Scissor.{Scissor}
 use Rattle.raster.specs.declared.Fragment.{Fragment}
 use Rattle.raster.specs.declared.Fragment.the-variants.{Empty}
-use Rattle.raster.specs.Admitted.{any}
+use Rattle.checks.specs.Check.{any}
 use Rattle.raster.specs.Emitted.{Emit, emits, inside, cornerOf, triangleFragment, triangleEmits}
 use Rattle.raster.proofs.Parts.{from-empty}
 use Rattle.probe.specs.Probe.{triangleProbe}

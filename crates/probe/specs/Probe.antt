@@ -20,7 +20,8 @@ use Rattle.raster.specs.declared.Geometry.{Geometry}
 use Rattle.raster.specs.declared.Geometry.the-variants.{Nothing, Triangles, Rectangle}
 use Rattle.raster.specs.declared.Three.{Three}
 use Rattle.raster.specs.declared.Three.the-variants.{Vertices, Absent}
-use Rattle.raster.specs.Admitted.{any, triangleAt}
+use Rattle.checks.specs.Check.{any}
+use Rattle.raster.specs.Admitted.{triangleAt}
 use Rattle.raster.specs.Emitted.{cornerOf, triangleFragment, rectangleFragment}
 
 -- pixel (x, y) of a triangle: nothing where a vertex is out of range, which no admitted draw has, or where the triangle is skipped

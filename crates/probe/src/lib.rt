@@ -27,7 +27,7 @@ fn triangle(
     requires { ⌜ (x < 1024) × (y < 1024) ⌝ }
     ensures { λ r. ⌜ r ≡ triangleProbe antialias combiner cull a b c y x ⌝ }
 {
-    if raster::out_of_range(a, b, c) {
+    if checks::out_of_range(a, b, c) {
         return Fragment::Empty;
     }
     if vertex::culled(cull, a, b, c) {

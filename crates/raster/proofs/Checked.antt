@@ -20,7 +20,8 @@ use Rattle.edges.specs.Limits.{Near, AllNear}
 use Rattle.raster.specs.declared.Three.{Three}
 use Rattle.raster.specs.declared.Three.the-variants.{Vertices, Absent}
 use Rattle.raster.specs.declared.Geometry.the-variants.{Triangles}
-use Rattle.raster.specs.Admitted.{triangleAt, any, checkOf, checkThree, failing, all, admittedOf}
+use Rattle.checks.specs.Check.{any, checkOf}
+use Rattle.raster.specs.Admitted.{triangleAt, checkThree, failing, all, admittedOf}
 use Rattle.raster.specs.Emitted.{cornerOf}
 
 -- triangle i has no failing check

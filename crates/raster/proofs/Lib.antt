@@ -1,7 +1,6 @@
 -- What several proofs of `raster` share, and the laws for the draw loops above it.
 pub mod Parts
 pub mod Loops
-pub mod Choices
 pub mod Mapped
 pub mod Checked
 pub mod Inside

@@ -2,23 +2,17 @@
 // rectangle emits.
 ghost use mathlib.Core.Path.{_≡_};
 ghost use mathlib.Core.List.{map};
-ghost use mathlib.Core.Bool.{not};
 ghost use Prim.Native.Nat.{_+_, _*_, _<_, min};
 ghost use lib.ListN.{length};
-ghost use lib.Ieee.{ne};
-ghost use Rattle.vertex.specs.Range.{inRange, finiteColor};
-ghost use Rattle.combiner.specs.Combine.{colorOf};
 ghost use Rattle.raster.specs.Area.{Sized, areaOf};
-ghost use Rattle.raster.specs.Admitted.{lookedUp, triangleAt, colourOf, isShade, usesShade, any, alphaDiffers, alphaCheck, checkOf, failing, admittedOf};
+ghost use Rattle.raster.specs.Admitted.{triangleAt, failing, admittedOf};
 ghost use Rattle.raster.specs.Emitted.{shown, covered, cornerOf, triangleFragment, coloredFragment, rectangleFragment};
+use checks::Looked;
 use combiner::Color;
 use combiner::Combiner;
 use edges::Corner;
 use edges::Edges;
-use mode::Rgba;
 use rectangle::Sides;
-use selectors::AlphaIn;
-use selectors::CycleSel;
 use vertex::Vertex;
 
 // In pixels.
@@ -43,12 +37,6 @@ pub enum Geometry {
     Nothing,
     Triangles,
     Rectangle(f32, f32, f32, f32),
-}
-
-// A vertex that an index names, if there is one.
-pub enum Looked {
-    There(Vertex),
-    Missing,
 }
 
 // A triangle's vertices, if all are there.
@@ -92,30 +80,6 @@ impl Scissor {
     }
 }
 
-// The vertex that an index names: its presence flag is 1 and its six floats are there.
-pub fn look_up(vertices: &[f32], present: &[u8], index: u32) -> Looked
-    ensures { λ r. ⌜ r ≡ lookedUp (now (vertices .entry)) (now (present .entry)) index ⌝ }
-{
-    let i = index as usize;
-    if present.len() <= i {
-        return Looked::Missing;
-    }
-    if present[i] != 1 {
-        return Looked::Missing;
-    }
-    let at = 6 * i;
-    if vertices.len() < at + 6 {
-        return Looked::Missing;
-    }
-    let x = vertices[at];
-    let y = vertices[at + 1];
-    let r = vertices[at + 2];
-    let g = vertices[at + 3];
-    let b = vertices[at + 4];
-    let a = vertices[at + 5];
-    Looked::There(Vertex { x, y, r, g, b, a })
-}
-
 // Triangle i of an index list.
 pub fn triangle_at(vertices: &[f32], present: &[u8], indices: &[u32], i: usize) -> Three
     requires { ⌜ 3 * i + 2 < length (now indices) ⌝ }
@@ -125,157 +89,16 @@ pub fn triangle_at(vertices: &[f32], present: &[u8], indices: &[u32], i: usize) 
     let i0 = indices[at];
     let i1 = indices[at + 1];
     let i2 = indices[at + 2];
-    let Looked::There(a) = look_up(vertices, present, i0) else {
+    let Looked::There(a) = checks::look_up(vertices, present, i0) else {
         return Three::Absent;
     };
-    let Looked::There(b) = look_up(vertices, present, i1) else {
+    let Looked::There(b) = checks::look_up(vertices, present, i1) else {
         return Three::Absent;
     };
-    let Looked::There(c) = look_up(vertices, present, i2) else {
+    let Looked::There(c) = checks::look_up(vertices, present, i2) else {
         return Three::Absent;
     };
     Three::Vertices(a, b, c)
-}
-
-pub fn colour(v: Vertex) -> Rgba
-    ensures { λ r. ⌜ r ≡ colourOf v ⌝ }
-{
-    Rgba {
-        r: v.r,
-        g: v.g,
-        b: v.b,
-        a: v.a,
-    }
-}
-
-fn is_shade(input: AlphaIn) -> bool
-    ensures { λ r. ⌜ r ≡ isShade input ⌝ }
-{
-    if let AlphaIn::Shade = input {
-        true
-    } else {
-        false
-    }
-}
-
-// Whether an alpha selector is Shade.
-fn uses_shade(s: CycleSel) -> bool
-    ensures { λ r. ⌜ r ≡ usesShade s ⌝ }
-{
-    let aa = s.aa;
-    if is_shade(aa) {
-        return true;
-    }
-    let ab = s.ab;
-    if is_shade(ab) {
-        return true;
-    }
-    let ac = s.ac;
-    if is_shade(ac) {
-        return true;
-    }
-    let ad = s.ad;
-    is_shade(ad)
-}
-
-// Whether a combined colour is missing or has another alpha.
-fn alpha_differs(alpha: f32, color: Color) -> bool
-    ensures { λ r. ⌜ r ≡ alphaDiffers alpha color ⌝ }
-{
-    let Color::Value(_, _, _, a) = color else {
-        return true;
-    };
-    a != alpha
-}
-
-// Check 2.
-pub fn out_of_range(a: Vertex, b: Vertex, c: Vertex) -> bool
-    ensures { λ r. ⌜ r ≡ any (λ v. not (inRange v)) a b c ⌝ }
-{
-    if !a.in_range() {
-        return true;
-    }
-    if !b.in_range() {
-        return true;
-    }
-    !c.in_range()
-}
-
-// Check 3, where an alpha selector is Shade. A NaN differs from itself.
-fn shades_differ(a: Vertex, b: Vertex, c: Vertex) -> bool
-    ensures { λ r. ⌜ r ≡ any (λ v. ne (v .a) (a .a)) a b c ⌝ }
-{
-    if a.a != a.a {
-        return true;
-    }
-    if b.a != a.a {
-        return true;
-    }
-    c.a != a.a
-}
-
-// Check 4.
-fn not_finite(a: Vertex, b: Vertex, c: Vertex) -> bool
-    ensures { λ r. ⌜ r ≡ any (λ v. not (finiteColor v)) a b c ⌝ }
-{
-    if !a.finite() {
-        return true;
-    }
-    if !b.finite() {
-        return true;
-    }
-    !c.finite()
-}
-
-fn differs_from(combiner: Combiner, alpha: f32, v: Vertex) -> bool
-    ensures { λ r. ⌜ r ≡ alphaDiffers alpha (colorOf combiner (colourOf v)) ⌝ }
-{
-    alpha_differs(alpha, combiner.color(colour(v)))
-}
-
-// Check 6.
-fn alphas_differ(combiner: Combiner, alpha: f32, a: Vertex, b: Vertex, c: Vertex) -> bool
-    ensures { λ r. ⌜ r ≡ any (λ v. alphaDiffers alpha (colorOf combiner (colourOf v))) a b c ⌝ }
-{
-    if differs_from(combiner, alpha, a) {
-        return true;
-    }
-    if differs_from(combiner, alpha, b) {
-        return true;
-    }
-    differs_from(combiner, alpha, c)
-}
-
-// Checks 5 and 6.
-fn alpha_check(combiner: Combiner, a: Vertex, b: Vertex, c: Vertex) -> u8
-    ensures { λ r. ⌜ r ≡ alphaCheck combiner a b c (colorOf combiner (colourOf a)) ⌝ }
-{
-    let Color::Value(_, _, _, alpha) = combiner.color(colour(a)) else {
-        return 5;
-    };
-    if alphas_differ(combiner, alpha, a, b, c) {
-        return 6;
-    }
-    0
-}
-
-// The first check of a triangle that fails, in the Rust's order; 0 for none.
-fn check(combiner: Combiner, a: Vertex, b: Vertex, c: Vertex) -> u8
-    ensures { λ r. ⌜ r ≡ checkOf combiner a b c ⌝ }
-{
-    if out_of_range(a, b, c) {
-        return 2;
-    }
-    let selectors = combiner.selectors;
-    if uses_shade(selectors) {
-        if shades_differ(a, b, c) {
-            return 3;
-        }
-    }
-    if not_finite(a, b, c) {
-        return 4;
-    }
-    alpha_check(combiner, a, b, c)
 }
 
 // The first check of triangle i that fails: 1 where a vertex is missing.
@@ -292,7 +115,7 @@ pub fn failing_check(
     let Three::Vertices(a, b, c) = triangle_at(vertices, present, indices, i) else {
         return 1;
     };
-    check(combiner, a, b, c)
+    checks::check(combiner, a, b, c)
 }
 
 // Whether no triangle has a failing check.

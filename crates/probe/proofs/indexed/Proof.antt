@@ -1,7 +1,7 @@
 -- `indexed` meets its contract: by whether there is a triangle i, and whether its vertices are there. Assumes nothing.
 use mathlib.Core.Path.{sym, _∙_}
 use borrow.Author.Tests.{le-leb, lt-leb}
-use Rattle.raster.proofs.Choices.{taken, passed}
+use Rattle.checks.proofs.Choices.{taken, passed}
 use Rattle.probe.specs.Probe.{threeProbe, indexedProbe}
 use borrow.Author.Needs.{needs}
 use Rattle.probe.proofs.indexed.Statement.{statement}

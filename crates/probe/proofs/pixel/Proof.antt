@@ -9,7 +9,7 @@ use Rattle.combiner.specs.Combine.{colorOf}
 use Rattle.rectangle.specs.declared.Sides.{Sides}
 use Rattle.raster.specs.declared.Geometry.{Geometry}
 use Rattle.raster.specs.Emitted.{rectangleFragment}
-use Rattle.raster.proofs.Choices.{taken, passed, or-first, or-next}
+use Rattle.checks.proofs.Choices.{taken, passed, or-first, or-next}
 use Rattle.probe.specs.Probe.{geometryProbe, pixelProbe}
 use borrow.Author.Needs.{needs}
 use Rattle.probe.proofs.pixel.Statement.{statement}

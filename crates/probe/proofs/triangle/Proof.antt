@@ -15,10 +15,10 @@ use Rattle.edges.specs.Edge.{areaOf}
 use Rattle.edges.specs.Limits.{AllNear, TameTri}
 use Rattle.edges.specs.Span.{triOf, edgesOf}
 use Rattle.edges.proofs.Tame.{tame}
-use Rattle.raster.specs.Admitted.{any}
+use Rattle.checks.specs.Check.{any}
 use Rattle.raster.specs.Emitted.{cornerOf, triangleFragment}
 use Rattle.raster.proofs.Checked.{placed, sorted-near}
-use Rattle.raster.proofs.Choices.{taken, passed, or-first, or-next}
+use Rattle.checks.proofs.Choices.{taken, passed, or-first, or-next}
 use Rattle.probe.specs.Probe.{triangleProbe}
 use Rattle.probe.proofs.Flat.{flat, not-flat}
 use borrow.Author.Needs.{needs}

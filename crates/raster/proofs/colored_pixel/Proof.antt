@@ -3,7 +3,7 @@ use mathlib.Core.Path.{refl, sym, _∙_}
 use lib.Ieee.{ofBits}
 use borrow.Author.Tests.{not-true, not-false}
 use Rattle.raster.specs.Emitted.{coloredFragment}
-use Rattle.raster.proofs.Choices.{taken, passed}
+use Rattle.checks.proofs.Choices.{taken, passed}
 use borrow.Author.Needs.{needs}
 use Rattle.raster.proofs.colored_pixel.Statement.{statement}
 use Rattle.raster.proofs.colored_pixel.Tie as tie

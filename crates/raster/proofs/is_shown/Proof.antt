@@ -7,7 +7,7 @@ use native.Mathlib.Decide.{decLe}
 use lib.Bits.{bitAnd, and-high}
 use lib.Dec.{eqb, leb}
 use borrow.Author.Tests.{lt-ltb, le-ltb, le-leb, lt-leb, eq-eqb, ne-eqb}
-use Rattle.raster.proofs.Choices.{or-first, or-next, not-first, both, and-next}
+use Rattle.checks.proofs.Choices.{or-first, or-next, not-first, both, and-next}
 use borrow.Author.Needs.{needs}
 use Rattle.raster.proofs.is_shown.Statement.{statement}
 use Rattle.raster.proofs.is_shown.Tie as tie

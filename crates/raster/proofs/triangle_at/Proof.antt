@@ -2,7 +2,8 @@
 use mathlib.Core.Path.{sym, _∙_}
 use Prim.Native.Nat.{_+_, _*_}
 use lib.ListN.{getD}
-use Rattle.raster.specs.Admitted.{lookedUp, three, triangleAt}
+use Rattle.checks.specs.Check.{lookedUp}
+use Rattle.raster.specs.Admitted.{three, triangleAt}
 use borrow.Author.Needs.{needs}
 use Rattle.raster.proofs.triangle_at.Statement.{statement}
 use Rattle.raster.proofs.triangle_at.Tie as tie

@@ -3,7 +3,7 @@ use mathlib.Core.Path.{refl, sym, ap, _∙_}
 use Rattle.combiner.specs.Combine.{colorOf}
 use borrow.Author.Tests.{not-true, not-false}
 use Rattle.raster.specs.Emitted.{shown, covered, triangleFragment}
-use Rattle.raster.proofs.Choices.{taken, passed}
+use Rattle.checks.proofs.Choices.{taken, passed}
 use borrow.Author.Needs.{needs}
 use Rattle.raster.proofs.triangle_pixel.Statement.{statement}
 use Rattle.raster.proofs.triangle_pixel.Tie as tie

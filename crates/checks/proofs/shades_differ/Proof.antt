@@ -1,8 +1,8 @@
 -- `shades_differ` meets its contract: the first vertex that differs decides, and else the last. Assumes nothing.
 use mathlib.Core.Path.{refl, sym}
-use Rattle.raster.proofs.Choices.{or-first, or-next}
-use Rattle.raster.proofs.shades_differ.Statement.{statement}
-use Rattle.raster.proofs.shades_differ.Tie as tie
+use Rattle.checks.proofs.Choices.{or-first, or-next}
+use Rattle.checks.proofs.shades_differ.Statement.{statement}
+use Rattle.checks.proofs.shades_differ.Tie as tie
 
 returns : tie.Need-returns
 returns c = sym (or-first _ (or-first _ (c .if1 .taken)))

@@ -1,9 +1,9 @@
 -- `alphas_differ` meets its contract: the first vertex that differs decides, and else the last. Assumes nothing.
 use mathlib.Core.Path.{sym, _∙_}
-use Rattle.raster.proofs.Choices.{or-first, or-next}
+use Rattle.checks.proofs.Choices.{or-first, or-next}
 use borrow.Author.Needs.{needs}
-use Rattle.raster.proofs.alphas_differ.Statement.{statement}
-use Rattle.raster.proofs.alphas_differ.Tie as tie
+use Rattle.checks.proofs.alphas_differ.Statement.{statement}
+use Rattle.checks.proofs.alphas_differ.Tie as tie
 
 differs-from-requires : tie.Need-differs-from-requires
 differs-from-requires c κs = search needs

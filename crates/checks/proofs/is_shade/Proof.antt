@@ -2,10 +2,10 @@
 use mathlib.Core.Path.{refl}
 use mathlib.Core.List.{[], _∷_}
 use Rattle.combiner.proofs.Tags.{others, alphas, alpha-one-of}
-use Rattle.raster.specs.Admitted.{isShade}
+use Rattle.checks.specs.Check.{isShade}
 use borrow.Author.Needs.{needs}
-use Rattle.raster.proofs.is_shade.Statement.{statement}
-use Rattle.raster.proofs.is_shade.Tie as tie
+use Rattle.checks.proofs.is_shade.Statement.{statement}
+use Rattle.checks.proofs.is_shade.Tie as tie
 
 enum-told : tie.Need-enum-told
 enum-told c = search needs

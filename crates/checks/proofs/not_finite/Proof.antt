@@ -1,10 +1,10 @@
 -- `not_finite` meets its contract: the first test that holds decides, and else the last. Assumes nothing.
 use mathlib.Core.Path.{sym, ap}
 use mathlib.Core.Bool.{not}
-use Rattle.raster.proofs.Choices.{or-first, or-next, turned}
+use Rattle.checks.proofs.Choices.{or-first, or-next, turned}
 use borrow.Author.Needs.{needs}
-use Rattle.raster.proofs.not_finite.Statement.{statement}
-use Rattle.raster.proofs.not_finite.Tie as tie
+use Rattle.checks.proofs.not_finite.Statement.{statement}
+use Rattle.checks.proofs.not_finite.Tie as tie
 
 finite-requires : tie.Need-finite-requires
 finite-requires c κs = search needs

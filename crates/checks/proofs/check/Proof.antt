@@ -5,11 +5,11 @@ use mathlib.Core.Logic.{⊎-elim}
 use lib.Ieee.{ne}
 use Rattle.vertex.specs.declared.Vertex.{Vertex}
 use Rattle.vertex.specs.Range.{inRange}
-use Rattle.raster.specs.Admitted.{any, usesShade, checkOf}
-use Rattle.raster.proofs.Choices.{taken, passed, both, not-first, not-second}
+use Rattle.checks.specs.Check.{any, usesShade, checkOf}
+use Rattle.checks.proofs.Choices.{taken, passed, both, not-first, not-second}
 use borrow.Author.Needs.{needs}
-use Rattle.raster.proofs.check.Statement.{statement}
-use Rattle.raster.proofs.check.Tie as tie
+use Rattle.checks.proofs.check.Statement.{statement}
+use Rattle.checks.proofs.check.Tie as tie
 
 -- check 2 is passed
 placed : (c : tie.Else1) → (let s = c .before .before .args in any (λ (v : Vertex). not (inRange v)) (s .a) (s .b) (s .c) ≡ false)

@@ -1,10 +1,10 @@
 -- `differs_from` meets its contract: its callees' answers, put together. Assumes nothing.
 use mathlib.Core.Path.{ap, _∙_}
 use Rattle.combiner.specs.Combine.{colorOf}
-use Rattle.raster.specs.Admitted.{alphaDiffers}
+use Rattle.checks.specs.Check.{alphaDiffers}
 use borrow.Author.Needs.{needs}
-use Rattle.raster.proofs.differs_from.Statement.{statement}
-use Rattle.raster.proofs.differs_from.Tie as tie
+use Rattle.checks.proofs.differs_from.Statement.{statement}
+use Rattle.checks.proofs.differs_from.Tie as tie
 
 colour-requires : tie.Need-colour-requires
 colour-requires c κs = search needs

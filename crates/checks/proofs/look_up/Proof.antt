@@ -4,11 +4,11 @@ use mathlib.Core.Path.{refl}
 use mathlib.Core.Bool.{_&&_}
 use lib.Dec.{eqb, ltb}
 use lib.ListN.{length, getD}
-use Rattle.raster.specs.Admitted.{lookedUp}
-use Rattle.raster.proofs.Choices.{taken, passed, both, not-first, not-second}
+use Rattle.checks.specs.Check.{lookedUp}
+use Rattle.checks.proofs.Choices.{taken, passed, both, not-first, not-second}
 use borrow.Author.Needs.{needs}
-use Rattle.raster.proofs.look_up.Statement.{statement}
-use Rattle.raster.proofs.look_up.Tie as tie
+use Rattle.checks.proofs.look_up.Statement.{statement}
+use Rattle.checks.proofs.look_up.Tie as tie
 
 returns : tie.Need-returns
 unfolding lookedUp

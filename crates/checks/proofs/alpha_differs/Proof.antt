@@ -1,9 +1,9 @@
 -- `alpha_differs` meets its contract: by the two cases of a colour. Assumes nothing.
 use mathlib.Core.Path.{sym}
-use Rattle.raster.specs.Admitted.{alphaDiffers}
+use Rattle.checks.specs.Check.{alphaDiffers}
 use borrow.Author.Needs.{needs}
-use Rattle.raster.proofs.alpha_differs.Statement.{statement}
-use Rattle.raster.proofs.alpha_differs.Tie as tie
+use Rattle.checks.proofs.alpha_differs.Statement.{statement}
+use Rattle.checks.proofs.alpha_differs.Tie as tie
 
 enum-known-color : tie.Need-enum-known-color
 enum-known-color c = search needs

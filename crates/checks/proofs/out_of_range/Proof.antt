@@ -1,10 +1,10 @@
 -- `out_of_range` meets its contract: the first test that holds decides, and else the last. Assumes nothing.
 use mathlib.Core.Path.{sym, ap}
 use mathlib.Core.Bool.{not}
-use Rattle.raster.proofs.Choices.{or-first, or-next, turned}
+use Rattle.checks.proofs.Choices.{or-first, or-next, turned}
 use borrow.Author.Needs.{needs}
-use Rattle.raster.proofs.out_of_range.Statement.{statement}
-use Rattle.raster.proofs.out_of_range.Tie as tie
+use Rattle.checks.proofs.out_of_range.Statement.{statement}
+use Rattle.checks.proofs.out_of_range.Tie as tie
 
 in-range-requires : tie.Need-in-range-requires
 in-range-requires c κs = search needs

@@ -1,10 +1,10 @@
 -- `uses_shade` meets its contract: the first selector that is Shade decides, and else the last. Assumes nothing.
 use mathlib.Core.Path.{sym, _∙_}
-use Rattle.raster.specs.Admitted.{usesShade}
-use Rattle.raster.proofs.Choices.{or-first, or-next}
+use Rattle.checks.specs.Check.{usesShade}
+use Rattle.checks.proofs.Choices.{or-first, or-next}
 use borrow.Author.Needs.{needs}
-use Rattle.raster.proofs.uses_shade.Statement.{statement}
-use Rattle.raster.proofs.uses_shade.Tie as tie
+use Rattle.checks.proofs.uses_shade.Statement.{statement}
+use Rattle.checks.proofs.uses_shade.Tie as tie
 
 is-shade-requires : tie.Need-is-shade-requires
 is-shade-requires c κs = search needs

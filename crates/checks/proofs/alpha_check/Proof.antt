@@ -1,11 +1,11 @@
 -- `alpha_check` meets its contract: by the first vertex's colour, and then by whether an alpha differs. Assumes nothing.
 use mathlib.Core.Path.{_≡_, refl, sym, ap, _∙_}
 use Rattle.combiner.specs.Combine.{colorOf}
-use Rattle.raster.specs.Admitted.{colourOf, alphaCheck}
-use Rattle.raster.proofs.Choices.{taken, passed}
+use Rattle.checks.specs.Check.{colourOf, alphaCheck}
+use Rattle.checks.proofs.Choices.{taken, passed}
 use borrow.Author.Needs.{needs}
-use Rattle.raster.proofs.alpha_check.Statement.{statement}
-use Rattle.raster.proofs.alpha_check.Tie as tie
+use Rattle.checks.proofs.alpha_check.Statement.{statement}
+use Rattle.checks.proofs.alpha_check.Tie as tie
 
 -- the first vertex's combined colour
 combined : (w : tie.After-color) → w .color .result ≡ (let s = w .before .before .args in colorOf (s .combiner) (colourOf (s .a)))
