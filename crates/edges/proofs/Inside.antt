@@ -12,8 +12,10 @@ use borrow.Author.Tests.{lt-ltb, le-leb, ltb-true, leb-true}
 use Rattle.edges.specs.declared.Edges.{Edges}
 use Rattle.edges.specs.Sample.{sampleAt, twoOf, pairOf, maskOf}
 use Rattle.range.specs.Inner.{Inner}
-use Rattle.edges.specs.Bound.{allSamples, pickZ, outerOf, clampOf, rangeOf, edgeOfRows, fullFrom, fullTo}
-use Rattle.edges.proofs.Outside.{le-flip, clamp-in, below-clamp, above-clamp}
+use Rattle.edge.specs.Bound.{pickZ, outerOf, clampOf, rangeOf, edgeOfRows, fullFrom, fullTo}
+use Rattle.edges.specs.Bound.{allSamples}
+use Rattle.edge.proofs.Clamped.{clamp-in, below-clamp, above-clamp}
+use Rattle.edges.proofs.Outside.{le-flip}
 
 -- ---- order
 le-le : (a b : ℤ) (n : ℕ) → leZ a b ≡ true → leZ b (pos n) ≡ true → leZ a (pos n) ≡ true
@@ -51,10 +53,6 @@ module _ (a b : ℤ) (n : ℕ) where
 
 -- ---- the edges of two rows
 module _ (e : List ℤ) (i j : ℕ) where
-  pub rows-le : (low : Bool) → edgeOfRows low e i j ≤ 8192
-  unfolding edgeOfRows
-  rows-le low = clamp-in (outerOf low (getD e i (pos 0)) (getD e j (pos 0))) 0 8192 (omega arith) .1
-
   from-rows : (n : ℕ) → edgeOfRows false e i j ≤ n → n < 8192 → (leZ (getD e i (pos 0)) (pos n) ≡ true) × (leZ (getD e j (pos 0)) (pos n) ≡ true)
   unfolding edgeOfRows
   from-rows n h k =

@@ -1,7 +1,5 @@
 -- What the proofs of `edges` share, and the laws that callers cite.
-pub mod Bits
 pub mod Size
-pub mod Held
 pub mod Tame
 pub mod Ones
 pub mod Outside

@@ -7,9 +7,10 @@ use native.Mathlib.Omega.{arith}
 use lib.IntN.{ℤ, pos, negsuc}
 use lib.Signed.{ltZ, leZ}
 use borrow.Author.Tests.{lt-ltb, le-ltb, lt-leb, ltb-true, leb-true}
-use Rattle.edges.specs.declared.Edge.{Edge}
+use Rattle.edge.specs.declared.Edge.{Edge}
 use Rattle.edges.specs.declared.Tri.{Tri}
-use Rattle.edges.specs.Span.{spanOf, lineOf, edgesOf, fourOf, rowOf}
+use Rattle.edge.specs.Span.{spanOf, fourOf}
+use Rattle.edges.specs.Span.{lineOf, edgesOf, rowOf}
 
 -- ---- order
 not-lt-up : (z : ℤ) (m n : ℕ) → m ≤ n → leZ z (pos m) ≡ true → ltZ (pos n) z ≡ false

@@ -15,7 +15,9 @@ use Rattle.edges.specs.declared.Tri.{Tri}
 use Rattle.edges.specs.Span.{lineOf, edgesOf, pickSpan, noSpan}
 use Rattle.edges.specs.Sample.{sampleAt, twoOf, pairOf, maskOf}
 use Rattle.range.specs.Kept.{Kept}
-use Rattle.edges.specs.Bound.{noSample, noRow, pickZ, outerOf, outermostOf, clampOf, rangeOf}
+use Rattle.edge.proofs.Clamped.{clamp-in, below-clamp, above-clamp}
+use Rattle.edge.specs.Bound.{pickZ, outerOf, outermostOf, clampOf, rangeOf}
+use Rattle.edges.specs.Bound.{noSample, noRow}
 
 -- ---- order of signed numbers
 pub le-flip : (a b : ℤ) → leZ a b ≡ false → leZ b a ≡ true
@@ -128,18 +130,6 @@ row-empty t y h x = omega (arith, at 0 (omega arith), at 1 (omega arith), at 2 (
     at s k = (λ i. twoOf (h s k i .l) (h s k i .r) (sampleAt x s)) ∙ none-two (sampleAt x s)
 
 -- ---- a range
-pub clamp-in : (z : ℤ) (lo hi : ℕ) → lo ≤ hi → (lo ≤ clampOf z lo hi) × (clampOf z lo hi ≤ hi)
-clamp-in (pos a) lo hi h = omega arith
-clamp-in (negsuc a) lo hi h = omega arith
-
-pub below-clamp : (z : ℤ) (lo hi i : ℕ) → lo ≤ i → i < clampOf z lo hi → ltZ (pos i) z ≡ true
-below-clamp (pos a) lo hi i h k = lt-ltb i a (omega arith)
-below-clamp (negsuc a) lo hi i h k = absurd (omega arith)
-
-pub above-clamp : (z : ℤ) (lo hi i : ℕ) → clampOf z lo hi ≤ i → i < hi → leZ z (pos i) ≡ true
-above-clamp (pos a) lo hi i h k = le-leb a i (omega arith)
-above-clamp (negsuc a) lo hi i h k = refl
-
 -- the part of lo..hi in from..to leaves nothing out, where what is below from and what is not below to is empty
 pub kept : (empty : ℕ → Type 0) (from to : ℤ) (lo hi : ℕ) → lo ≤ hi
     → ((i : ℕ) → ltZ (pos i) from ≡ true → empty i) → ((i : ℕ) → leZ to (pos i) ≡ true → empty i) → Kept empty lo hi (rangeOf from to lo hi)

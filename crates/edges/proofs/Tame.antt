@@ -7,10 +7,13 @@ use lib.Dec.{lit<}
 use lib.IntN.{ℤ, pos, natAbs, _*ℤ_}
 use lib.Signed.{shrZ}
 use Rattle.edges.specs.declared.Corner.{Corner}
-use Rattle.edges.specs.Edge.{cornerAt, slopeOf, edgeStart, edgeFrom, modZ}
+use Rattle.edge.specs.Edge.{modZ}
+use Rattle.edges.specs.Edge.{cornerAt, slopeOf, edgeStart, edgeFrom}
 use Rattle.edges.specs.Span.{triOf, triBy}
-use Rattle.edges.specs.Limits.{Near, AllNear, Tame, TameTri}
-use Rattle.edges.proofs.Size.{size-slope, size-sub, size-mul, size-shr, size-floor, modZ-le}
+use Rattle.edge.specs.Limits.{Tame}
+use Rattle.edges.specs.Limits.{Near, AllNear, TameTri}
+use Rattle.edge.proofs.Size.{size-sub, size-mul, size-shr, size-floor, modZ-le}
+use Rattle.edges.proofs.Size.{size-slope}
 
 tame-from : (a : Corner) (step : ℤ) → Near a → natAbs step ≤ 2147483648 → Tame (edgeFrom a step)
 unfolding edgeFrom edgeStart

@@ -1,15 +1,9 @@
 -- The parts of a row and of the rows that have to be looked at, and the part of a row that is full. The Rust looks from the leftmost edge to the
 -- rightmost, and from the top corner's row to the bottom corner's. Definitions only.
-use Prim.Native.Nat.{ℕ, _+_, _/_, min, max}
+use Prim.Native.Nat.{ℕ}
 use mathlib.Core.Path.{_≡_}
-use mathlib.Core.Bool.{Bool, true, false}
-use mathlib.Core.List.{List}
-use lib.ListN.{getD}
-use lib.IntN.{ℤ, pos, negsuc}
-use lib.Signed.{leZ}
 use Rattle.edges.specs.declared.Edges.{Edges}
 use Rattle.edges.specs.declared.Tri.{Tri}
-use Rattle.range.specs.declared.Range.{Range}
 use Rattle.edges.specs.Span.{edgesOf}
 use Rattle.edges.specs.Sample.{maskOf}
 
@@ -24,38 +18,3 @@ allSamples e x = maskOf e x ≡ 255
 -- no pixel of row y has a sample in the triangle
 abbrev pub noRow : Tri → ℕ → Type 0
 noRow t y = (x : ℕ) → noSample (edgesOf t y) x
-
--- the smaller of two, or the larger
-abbrev pub pickZ : Bool → Bool → ℤ → ℤ → ℤ
-pickZ true true a b = a
-pickZ true false a b = b
-pickZ false true a b = b
-pickZ false false a b = a
-
-abbrev pub outerOf : Bool → ℤ → ℤ → ℤ
-outerOf low a b = pickZ (leZ a b) low a b
-
--- of four
-unfoldable pub outermostOf : Bool → List ℤ → ℤ
-outermostOf low e = outerOf low (outerOf low (getD e 0 (pos 0)) (getD e 1 (pos 0))) (outerOf low (getD e 2 (pos 0)) (getD e 3 (pos 0)))
-
--- z within lo to hi
-abbrev pub clampOf : ℤ → ℕ → ℕ → ℕ
-clampOf (pos a) lo hi = max lo (min a hi)
-clampOf (negsuc a) lo hi = lo
-
--- the part of lo..hi that lies in from..to
-unfoldable pub rangeOf : ℤ → ℤ → ℕ → ℕ → Range
-rangeOf from to lo hi = record { start = clampOf from lo hi; end = clampOf to (clampOf from lo hi) hi }
-
--- the smaller or the larger of the edges on rows i and j, within 0 to 8,192: the eighths of the pixels 0 to 1,023
-unfoldable pub edgeOfRows : Bool → List ℤ → ℕ → ℕ → ℕ
-edgeOfRows low e i j = clampOf (outerOf low (getD e i (pos 0)) (getD e j (pos 0))) 0 8192
-
--- the first pixel x all of whose samples lie right of their left edges: 8 x, and 8 x + 2 on the odd rows, are the leftmost
-unfoldable pub fullFrom : List ℤ → ℕ
-fullFrom l = max (edgeOfRows false l 0 2 + 7) (edgeOfRows false l 1 3 + 5) / 8
-
--- the first pixel x not all of whose samples lie left of their right edges: 8 x + 4, and 8 x + 6 on the odd rows, are the rightmost
-unfoldable pub fullTo : List ℤ → ℕ
-fullTo r = min (edgeOfRows true r 0 2 + 3) (edgeOfRows true r 1 3 + 1) / 8

@@ -4,7 +4,7 @@ use Prim.Native.Nat.{_≤_}
 use mathlib.Core.List.{List}
 use lib.IntN.{natAbs}
 use Rattle.edges.specs.declared.Corner.{Corner}
-use Rattle.edges.specs.declared.Edge.{Edge}
+use Rattle.edge.specs.Limits.{Tame}
 use Rattle.edges.specs.declared.Tri.{Tri}
 use Rattle.edges.specs.Edge.{cornerAt}
 
@@ -16,11 +16,6 @@ pub record AllNear (v : List Corner) : Type 0 where
   pub a-near : Near (cornerAt v 0)
   pub b-near : Near (cornerAt v 1)
   pub c-near : Near (cornerAt v 2)
-
-pub record Tame (e : Edge) : Type 0 where
-  pub start-small : natAbs (e .start) ≤ 17179869184
-  pub step-small : natAbs (e .step) ≤ 2147483648
-  pub base-small : natAbs (e .base) ≤ 8196
 
 -- every triangle that `setup` makes is tame (proofs/Tame.antt)
 pub record TameTri (t : Tri) : Type 0 where

@@ -7,11 +7,12 @@ use mathlib.Core.List.{List, [], _∷_, map}
 use lib.IntN.{ℤ, pos, _*ℤ_}
 use lib.Signed.{ltZ, leZ}
 use Rattle.edges.specs.declared.Corner.{Corner}
-use Rattle.edges.specs.declared.Edge.{Edge}
+use Rattle.edge.specs.declared.Edge.{Edge}
 use Rattle.edges.specs.declared.Tri.{Tri}
-use Rattle.edges.specs.declared.Span.{Span}
+use Rattle.edge.specs.declared.Span.{Span}
+use Rattle.edge.specs.Span.{spanOf, fourOf}
 use Rattle.edges.specs.declared.Edges.{Edges}
-use Rattle.edges.specs.Edge.{slopeOf, cornerAt, edgeFrom, crossOf}
+use Rattle.edges.specs.Edge.{slopeOf, cornerAt, edgeFrom}
 
 -- the edges of the triangle a, b, c, sorted top to bottom
 unfoldable pub triBy : Corner → Corner → Corner → Tri
@@ -27,14 +28,6 @@ triBy a b c = record {
 
 abbrev pub triOf : List Corner → Tri
 triOf v = triBy (cornerAt v 0) (cornerAt v 1) (cornerAt v 2)
-
--- from the major edge to the other, or the other way round
-abbrev pub spanBy : Bool → ℤ → ℤ → Span
-spanBy true m n = record { l = m; r = n }
-spanBy false m n = record { l = n; r = m }
-
-unfoldable pub spanOf : Edge → Edge → Bool → ℕ → Span
-spanOf major other rightward n = spanBy rightward (crossOf major n) (crossOf other n)
 
 abbrev pub pickSpan : Bool → Span → Span → Span
 pickSpan true a b = a
@@ -58,10 +51,6 @@ edgesOf t y = record {
 }
 
 -- ---- rows in which the same two edges bound the four lines
--- an edge on four quarter lines from n
-unfoldable pub fourOf : Edge → ℕ → List ℤ
-fourOf e n = map (λ s. crossOf e (n + s)) (0 ∷ 1 ∷ 2 ∷ 3 ∷ [])
-
 -- from the major edge to the other, or the other way round
 abbrev pub edgesBy : Bool → List ℤ → List ℤ → Edges
 edgesBy true m n = record { left = m; right = n }

@@ -16,8 +16,10 @@ use Rattle.blender.specs.Blend.{factorB, mixedOf, bytesOf, blendOf}
 use Rattle.pack.specs.Color.{packChannelOf}
 use Rattle.pack.specs.Depth.{lastFrom, rangeOf, depthWord, depthOf, packDepthOf}
 use Rattle.vertex.specs.Sorted.{atOrBefore, insert, sorted}
-use Rattle.edges.specs.Edge.{quantized, slopeOf, edgeStart, edgeFrom, edgeAt, crossOf}
-use Rattle.edges.specs.Span.{triBy, spanOf, lineOf, edgesOf}
+use Rattle.edge.specs.Edge.{quantized, edgeAt, crossOf}
+use Rattle.edges.specs.Edge.{slopeOf, edgeStart, edgeFrom}
+use Rattle.edge.specs.Span.{spanOf}
+use Rattle.edges.specs.Span.{triBy, lineOf, edgesOf}
 use Rattle.edges.specs.Sample.{twoOf, pairOf, maskOf}
 use Rattle.rectangle.specs.Rectangle.{insideOf, sampleBit, rowBits, rectMask}
 use Rattle.table.specs.Table.{Entry, table, Holds}

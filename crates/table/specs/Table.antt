@@ -21,7 +21,8 @@ use Rattle.vertex.specs.declared.Vertex.{Vertex}
 use Rattle.vertex.specs.Range.{inRange}
 use Rattle.vertex.specs.Sorted.{sorted}
 use Rattle.edges.specs.declared.Corner.{Corner}
-use Rattle.edges.specs.Edge.{slopeOf, quantized}
+use Rattle.edge.specs.Edge.{quantized}
+use Rattle.edges.specs.Edge.{slopeOf}
 use Rattle.edges.specs.Span.{triOf, edgesOf}
 use Rattle.edges.specs.Sample.{maskOf, countOf}
 use Rattle.rectangle.specs.declared.Sides.{Sides}

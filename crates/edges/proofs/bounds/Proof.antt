@@ -4,8 +4,9 @@ use lib.IntN.{ℤ, pos, _+ℤ_}
 use lib.Signed.{shrZ}
 use borrow.Author.Needs.{needs}
 use Rattle.range.specs.Kept.{Kept}
-use Rattle.edges.specs.Bound.{noSample, rangeOf}
-use Rattle.edges.proofs.Held.{got, lit, add, fit-plus, part}
+use Rattle.edge.specs.Bound.{rangeOf}
+use Rattle.edges.specs.Bound.{noSample}
+use Rattle.edge.proofs.Held.{got, lit, add, fit-plus, part}
 use Rattle.edges.proofs.Outside.{kept-pixels}
 use Rattle.edges.proofs.bounds.Statement.{statement}
 use Rattle.edges.proofs.bounds.Tie as tie

@@ -4,7 +4,7 @@ use mir.Syntax.{w64}
 use mir.Val.{toZ, ofZ}
 use borrow.Author.Needs.{needs}
 use Rattle.edges.specs.Edge.{edgeStart, edgeFrom}
-use Rattle.edges.proofs.Held.{held, small, back, low}
+use Rattle.edge.proofs.Held.{held, small, back, low}
 use Rattle.edges.proofs.edge_from.Statement.{statement}
 use Rattle.edges.proofs.edge_from.Tie as tie
 

@@ -5,8 +5,9 @@ use lib.Bits.{bitAnd}
 use lib.Signed.{shrZ}
 use mir.Syntax.{w64}
 use mir.Val.{toZ, ofZ}
-use Rattle.edges.specs.Edge.{edgeStart, modZ}
-use Rattle.edges.proofs.Held.{Held, held, small, sub, fit-sub, mul, fit-mul, shr, shl, ones}
+use Rattle.edge.specs.Edge.{modZ}
+use Rattle.edges.specs.Edge.{edgeStart}
+use Rattle.edge.proofs.Held.{Held, held, small, sub, fit-sub, mul, fit-mul, shr, shl, ones}
 use Rattle.edges.proofs.edge_start.Statement.{statement}
 use Rattle.edges.proofs.edge_start.Tie as tie
 

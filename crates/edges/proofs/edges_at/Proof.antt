@@ -8,7 +8,7 @@ use lib.Signed.{ltZ, leZ}
 use mir.Syntax.{w64}
 use mir.Val.{toZ, ofZ}
 use Rattle.edges.specs.declared.Tri.{Tri}
-use Rattle.edges.proofs.Held.{Held, small, uns, lt-is, le-is}
+use Rattle.edge.proofs.Held.{Held, small, uns, lt-is, le-is}
 use Rattle.edges.proofs.Lines.{upper-row, lower-row}
 use borrow.Author.Needs.{needs}
 use Rattle.edges.proofs.edges_at.Statement.{statement}

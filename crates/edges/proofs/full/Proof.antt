@@ -5,8 +5,9 @@ use native.Mathlib.Nat.{le-of-lt}
 use lib.IntN.{pos}
 use borrow.Author.Needs.{needs}
 use Rattle.range.specs.Inner.{Inner}
-use Rattle.edges.specs.Bound.{allSamples, rangeOf}
-use Rattle.edges.proofs.Held.{uns}
+use Rattle.edge.specs.Bound.{rangeOf}
+use Rattle.edges.specs.Bound.{allSamples}
+use Rattle.edge.proofs.Held.{uns}
 use Rattle.edges.proofs.Inside.{full-pixels}
 use Rattle.edges.proofs.full.Statement.{statement}
 use Rattle.edges.proofs.full.Tie as tie

@@ -7,7 +7,7 @@ use lib.Signed.{leZ, ltZ}
 use mir.Syntax.{w64}
 use mir.Val.{toZ, ofZ}
 use borrow.Author.Needs.{needs}
-use Rattle.edges.proofs.Held.{Held, any, uns, le-is, lt-is}
+use Rattle.edge.proofs.Held.{Held, any, uns, le-is, lt-is}
 use Rattle.edges.proofs.hit.Statement.{statement}
 use Rattle.edges.proofs.hit.Tie as tie
 

@@ -6,8 +6,9 @@ use lib.Signed.{ltZ, leZ}
 use mir.Syntax.{w64}
 use mir.Val.{toZ, ofZ}
 use Rattle.edges.specs.declared.Tri.{Tri}
-use Rattle.edges.specs.Span.{lineOf, pickSpan, noSpan, spanOf}
-use Rattle.edges.proofs.Held.{Held, small, uns, lt-is, le-is}
+use Rattle.edge.specs.Span.{spanOf}
+use Rattle.edges.specs.Span.{lineOf, pickSpan, noSpan}
+use Rattle.edge.proofs.Held.{Held, small, uns, lt-is, le-is}
 use borrow.Author.Needs.{needs}
 use Rattle.edges.proofs.line_at.Statement.{statement}
 use Rattle.edges.proofs.line_at.Tie as tie

@@ -7,8 +7,8 @@ use lib.Signed.{mag}
 use mir.Syntax.{w64}
 use mir.Val.{toZ, ofZ}
 use Rattle.edges.specs.Span.{lineOf, edgesOf}
-use Rattle.edges.specs.declared.Span.{Span}
-use Rattle.edges.proofs.Held.{back}
+use Rattle.edge.specs.declared.Span.{Span}
+use Rattle.edge.proofs.Held.{back}
 use borrow.Author.Needs.{needs}
 use Rattle.edges.proofs.lines_at.Statement.{statement}
 use Rattle.edges.proofs.lines_at.Tie as tie

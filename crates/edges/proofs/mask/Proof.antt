@@ -5,7 +5,7 @@ use native.Mathlib.Omega.{arith}
 use lib.Bits.{bitOr}
 use Rattle.edges.specs.declared.Edges.{Edges}
 use Rattle.edges.specs.Sample.{pairOf, maskOf}
-use Rattle.edges.proofs.Bits.{or-next}
+use Rattle.edge.proofs.Bits.{or-next}
 use Rattle.edges.proofs.Ones.{pair-lt}
 use borrow.Author.Needs.{needs}
 use Rattle.edges.proofs.mask.Statement.{statement}

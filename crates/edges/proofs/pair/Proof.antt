@@ -6,8 +6,8 @@ use lib.Bits.{bitAnd, bitOr, and-mask}
 use lib.ListN.{getD}
 use lib.IntN.{ℤ, pos}
 use Rattle.edges.specs.Sample.{inside, bitOf, sampleAt, twoOf, pairOf}
-use Rattle.edges.proofs.Bits.{join}
-use Rattle.edges.proofs.Held.{back}
+use Rattle.edge.proofs.Bits.{join}
+use Rattle.edge.proofs.Held.{back}
 use Rattle.edges.proofs.Ones.{bit-lt}
 use borrow.Author.Needs.{needs}
 use Rattle.edges.proofs.pair.Statement.{statement}

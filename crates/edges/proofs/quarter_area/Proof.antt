@@ -7,7 +7,7 @@ use borrow.Author.Needs.{needs}
 use Rattle.edges.specs.declared.Corner.{Corner}
 use Rattle.edges.specs.Limits.{AllNear}
 use Rattle.edges.specs.Edge.{cornerAt, areaBy}
-use Rattle.edges.proofs.Held.{Held, diff, fit-diff, mul, fit-mul, sub, fit-sub}
+use Rattle.edge.proofs.Held.{Held, diff, fit-diff, mul, fit-mul, sub, fit-sub}
 use Rattle.edges.proofs.quarter_area.Statement.{statement}
 use Rattle.edges.proofs.quarter_area.Tie as tie
 

@@ -2,8 +2,9 @@
 use mathlib.Core.Path.{_∙_, subst⁻¹}
 use borrow.Author.Needs.{needs}
 use Rattle.range.specs.Kept.{Kept}
-use Rattle.edges.specs.Bound.{noRow, rangeOf}
-use Rattle.edges.proofs.Held.{got, lit, add, fit-plus, part}
+use Rattle.edge.specs.Bound.{rangeOf}
+use Rattle.edges.specs.Bound.{noRow}
+use Rattle.edge.proofs.Held.{got, lit, add, fit-plus, part}
 use Rattle.edges.proofs.Outside.{kept-rows}
 use Rattle.edges.proofs.rows.Statement.{statement}
 use Rattle.edges.proofs.rows.Tie as tie

@@ -7,7 +7,7 @@ use Rattle.edges.specs.declared.Corner.{Corner}
 use Rattle.edges.specs.Edge.{cornerAt, slopeOf, edgeFrom}
 use Rattle.edges.specs.Span.{triBy}
 use Rattle.edges.specs.Limits.{AllNear}
-use Rattle.edges.proofs.Held.{small, back, shl}
+use Rattle.edge.proofs.Held.{small, back, shl}
 use Rattle.edges.proofs.Size.{size-slope}
 use borrow.Author.Needs.{needs}
 use Rattle.edges.proofs.setup.Statement.{statement}

@@ -7,9 +7,10 @@ use lib.IntN.{ℤ, pos, _-ℤ_, _*ℤ_, natAbs}
 use mir.Syntax.{w64}
 use mir.Val.{ofZ, toZ}
 use borrow.Author.Needs.{needs}
-use Rattle.edges.specs.Edge.{slopeOf, awayDiv, atLeastOne}
-use Rattle.edges.proofs.Held.{Held, made, diff, fit-diff, shl, low}
-use Rattle.edges.proofs.Size.{size-away, size-one, one-le}
+use Rattle.edge.specs.Edge.{awayDiv, atLeastOne}
+use Rattle.edges.specs.Edge.{slopeOf}
+use Rattle.edge.proofs.Held.{Held, made, diff, fit-diff, shl, low}
+use Rattle.edge.proofs.Size.{size-away, size-one, one-le}
 use Rattle.edges.proofs.slope.Statement.{statement}
 use Rattle.edges.proofs.slope.Tie as tie
 

@@ -1,6 +1,6 @@
 -- `corner` meets its contract, field by field. Assumes nothing.
 use mathlib.Core.Path.{_∙_}
-use Rattle.edges.proofs.Held.{back}
+use Rattle.edge.proofs.Held.{back}
 use borrow.Author.Needs.{needs}
 use Rattle.raster.proofs.corner.Statement.{statement}
 use Rattle.raster.proofs.corner.Tie as tie
