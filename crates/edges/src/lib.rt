@@ -143,16 +143,8 @@ fn lines_at(t: Tri, y: u32) -> Edges
     let b = line_at(t, n + 1);
     let c = line_at(t, n + 2);
     let d = line_at(t, n + 3);
-    let al = a.l;
-    let bl = b.l;
-    let cl = c.l;
-    let dl = d.l;
-    let ar = a.r;
-    let br = b.r;
-    let cr = c.r;
-    let dr = d.r;
-    let left = [al, bl, cl, dl];
-    let right = [ar, br, cr, dr];
+    let left = [a.l, b.l, c.l, d.l];
+    let right = [a.r, b.r, c.r, d.r];
     Edges { left, right }
 }
 
