@@ -115,19 +115,5 @@ pub fn shade(v: [Vertex; 3], x: usize, y: usize) -> Rgba
     requires { ⌜ (x < 1024) × (y < 1024) ⌝ }
     ensures { λ r. ⌜ r ≡ shadeOf v x y ⌝ }
 {
-    let a = v[0];
-    let b = v[1];
-    let c = v[2];
-    let px = x as f32;
-    let py = y as f32;
-    let den = area(a, b, c);
-    let wa = edge(b, c, px, py);
-    let wb = edge(c, a, px, py);
-    let wc = edge(a, b, px, py);
-    Rgba {
-        r: wa * a.r / den + wb * b.r / den + wc * c.r / den,
-        g: wa * a.g / den + wb * b.g / den + wc * c.g / den,
-        b: wa * a.b / den + wb * b.b / den + wc * c.b / den,
-        a: wa * a.a / den + wb * b.a / den + wc * c.a / den,
-    }
+    row::shade_row(v, y as u32).at(x as u32)
 }

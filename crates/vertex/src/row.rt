@@ -1,4 +1,4 @@
-// The colours of a row's pixels. What turns on the triangle and the row alone is worked out once, and each pixel takes the operations of `shade` that are
+// The colours of a row's pixels. What turns on the triangle and the row alone is worked out once, and each pixel takes the operations of `shadeOf` that are
 // left, in the same order.
 ghost use mathlib.Core.Path.{_≡_};
 ghost use Prim.Native.Nat.{_<_};
