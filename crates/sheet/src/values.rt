@@ -164,6 +164,21 @@ pub fn bytes(word: u32) -> Rgba8 {
     }
 }
 
+// Word n of those from `at` on, or 0 past the last.
+fn word(w: &Words, at: usize, n: usize) -> u32 {
+    if at < 128 {
+        if n < 128 - at {
+            return w[at + n];
+        }
+    }
+    0
+}
+
+// A truth value there.
+fn flag(w: &Words, at: usize, n: usize) -> bool {
+    truth(word(w, at, n))
+}
+
 // Whether a mode's 21 words are in their ranges.
 pub fn mode_within(w: &Words, at: usize) -> bool
     requires { ⌜ at + 21 ≤ 128 ⌝ }
@@ -180,27 +195,27 @@ pub fn render_mode(w: &Words, at: usize) -> RenderMode
     requires { ⌜ at + 21 ≤ 128 ⌝ }
 {
     RenderMode {
-        cycle_type: w[at],
-        blender_mux: (w[at + 1] % 65536) as u16,
-        rgb_dither: byte(w[at + 2]),
-        alpha_dither: byte(w[at + 3]),
-        cvg_dst: byte(w[at + 4]),
-        blend_class: blend_class(w[at + 5]),
-        fallback_class: blend_class(w[at + 6]),
-        z_mode: z_mode(w[at + 7]),
-        alpha_compare: alpha_compare(w[at + 8]),
-        key_enabled: truth(w[at + 9]),
-        image_read: truth(w[at + 10]),
-        antialias: truth(w[at + 11]),
-        alpha_cvg_select: truth(w[at + 12]),
-        color_on_coverage: truth(w[at + 13]),
-        force_blend: truth(w[at + 14]),
-        non_canonical_blend: truth(w[at + 15]),
-        z_source_prim: truth(w[at + 16]),
-        z_test: truth(w[at + 17]),
-        z_write: truth(w[at + 18]),
-        fog: truth(w[at + 19]),
-        cvg_x_alpha: truth(w[at + 20]),
+        cycle_type: word(w, at, 0),
+        blender_mux: (word(w, at, 1) % 65536) as u16,
+        rgb_dither: byte(word(w, at, 2)),
+        alpha_dither: byte(word(w, at, 3)),
+        cvg_dst: byte(word(w, at, 4)),
+        blend_class: blend_class(word(w, at, 5)),
+        fallback_class: blend_class(word(w, at, 6)),
+        z_mode: z_mode(word(w, at, 7)),
+        alpha_compare: alpha_compare(word(w, at, 8)),
+        key_enabled: flag(w, at, 9),
+        image_read: flag(w, at, 10),
+        antialias: flag(w, at, 11),
+        alpha_cvg_select: flag(w, at, 12),
+        color_on_coverage: flag(w, at, 13),
+        force_blend: flag(w, at, 14),
+        non_canonical_blend: flag(w, at, 15),
+        z_source_prim: flag(w, at, 16),
+        z_test: flag(w, at, 17),
+        z_write: flag(w, at, 18),
+        fog: flag(w, at, 19),
+        cvg_x_alpha: flag(w, at, 20),
     }
 }
 
@@ -247,14 +262,14 @@ fn cycle(w: &Words, at: usize) -> CycleSel
     requires { ⌜ at + 8 ≤ 128 ⌝ }
 {
     CycleSel {
-        ca: color(w[at]),
-        cb: color(w[at + 1]),
-        cc: color(w[at + 2]),
-        cd: color(w[at + 3]),
-        aa: alpha(w[at + 4]),
-        ab: alpha(w[at + 5]),
-        ac: alpha(w[at + 6]),
-        ad: alpha(w[at + 7]),
+        ca: color(word(w, at, 0)),
+        cb: color(word(w, at, 1)),
+        cc: color(word(w, at, 2)),
+        cd: color(word(w, at, 3)),
+        aa: alpha(word(w, at, 4)),
+        ab: alpha(word(w, at, 5)),
+        ac: alpha(word(w, at, 6)),
+        ad: alpha(word(w, at, 7)),
     }
 }
 
