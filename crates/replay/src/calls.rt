@@ -39,20 +39,8 @@ ghost use Prim.Native.Nat.{_+_, _≤_};
 // Whether the port agrees with a line's words, by the number that the table gives the call.
 pub fn agrees(call: usize, w: &Words) -> bool {
     match call {
-        0 => same_color(selectors::color_a(w[0]), w[1]),
-        1 => same_color(selectors::color_b(w[0]), w[1]),
-        2 => same_color(selectors::color_c(w[0]), w[1]),
-        3 => same_color(selectors::color_d(w[0]), w[1]),
-        4 => same_alpha(selectors::alpha_abd(w[0]), w[1]),
-        5 => same_alpha(selectors::alpha_c(w[0]), w[1]),
-        6 => decode_combine(w),
-        7 => same_float(num::clamp01(float(w[0])), w[1]),
-        8 => num::byte_of(float(w[0])) as u32 == w[1],
-        9 => num::quarter(float(w[0])) == signed(w[1]),
-        10 => num::floor_index(float(w[0])) == index(w[1]),
-        11 => num::ceil_index(float(w[0])) == index(w[1]),
-        12 => num::is_finite(float(w[0])) as u32 == w[1],
-        13 => num::le_total(float(w[0]), float(w[1])) as u32 == w[2],
+        0..=6 => selectors_agree(call, w),
+        7..=13 => numbers_agree(call, w),
         14 => combiner_new(w),
         15 => combiner_color(w),
         16 => strict_color(w),
@@ -65,6 +53,30 @@ pub fn agrees(call: usize, w: &Words) -> bool {
         23 => pixel_bytes(w),
         24 => encode(w),
         _ => false,
+    }
+}
+
+fn selectors_agree(call: usize, w: &Words) -> bool {
+    match call {
+        0 => same_color(selectors::color_a(w[0]), w[1]),
+        1 => same_color(selectors::color_b(w[0]), w[1]),
+        2 => same_color(selectors::color_c(w[0]), w[1]),
+        3 => same_color(selectors::color_d(w[0]), w[1]),
+        4 => same_alpha(selectors::alpha_abd(w[0]), w[1]),
+        5 => same_alpha(selectors::alpha_c(w[0]), w[1]),
+        _ => decode_combine(w),
+    }
+}
+
+fn numbers_agree(call: usize, w: &Words) -> bool {
+    match call {
+        7 => same_float(num::clamp01(float(w[0])), w[1]),
+        8 => num::byte_of(float(w[0])) as u32 == w[1],
+        9 => num::quarter(float(w[0])) == signed(w[1]),
+        10 => num::floor_index(float(w[0])) == index(w[1]),
+        11 => num::ceil_index(float(w[0])) == index(w[1]),
+        12 => num::is_finite(float(w[0])) as u32 == w[1],
+        _ => num::le_total(float(w[0]), float(w[1])) as u32 == w[2],
     }
 }
 

@@ -24,13 +24,31 @@ pub fn name(call: usize) -> [u8; 16]
         4 => *b"alpha_abd       ",
         5 => *b"alpha_c         ",
         6 => *b"decode_combine  ",
+        7..=13 => number_name(call),
+        _ => pixel_name(call),
+    }
+}
+
+// Of the calls on numbers.
+fn number_name(call: usize) -> [u8; 16]
+    ensures { λ r. ⌜ 16 ≡ length r ⌝ }
+{
+    match call {
         7 => *b"clamp           ",
         8 => *b"byte_of         ",
         9 => *b"quarter         ",
         10 => *b"floor_index     ",
         11 => *b"ceil_index      ",
         12 => *b"is_finite       ",
-        13 => *b"le_total        ",
+        _ => *b"le_total        ",
+    }
+}
+
+// Of the combiner's and the single-pixel calls.
+fn pixel_name(call: usize) -> [u8; 16]
+    ensures { λ r. ⌜ 16 ≡ length r ⌝ }
+{
+    match call {
         14 => *b"combiner_new    ",
         15 => *b"combiner_color  ",
         16 => *b"strict_color    ",
