@@ -1,13 +1,17 @@
 #!/usr/bin/env bash
-# The one test command: the layout, the comparison with the Rust, the C interface called from C, the player's crate, and last rt ci, whose last line is 'N passed, 0 failed'. rt ci
-# removes target/, so what links the static library runs before it; the library is built once.
+# The one test command: the layout, rt ci, the comparison with the Rust, the C interface called from C, and the player's crate. rt ci comes first, because it
+# removes target/ and proves every crate, and what links the static library builds it on those proofs; its last line, 'N passed, 0 failed', is said again at
+# the end, when all the rest has passed too.
 set -euo pipefail
 cd "$(dirname "$0")"
 rt fmt --check
 for package in player oracle bench; do
   cargo fmt --check --manifest-path $package/Cargo.toml
 done
+log=$(mktemp)
+trap 'rm -f "$log"' EXIT
+rt ci | tee "$log"
 oracle/run.sh
 c/run.sh
 cargo test --quiet --offline --manifest-path player/Cargo.toml
-rt ci
+tail -n 1 "$log"

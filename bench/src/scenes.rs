@@ -89,6 +89,18 @@ fn frame(width: u32, height: u32, mark: u8) -> Frame {
     Frame { width, height, colors, coverages: vec![7; pixels], marks: vec![mark; pixels] }
 }
 
+/// Every third of the upright stripes of 100 pixels is unknown: number 3 finds marks of both kinds.
+fn striped(frame: &Frame) -> Frame {
+    let mut striped = frame.clone();
+    let width = frame.width as usize;
+    for (pixel, mark) in striped.marks.iter_mut().enumerate() {
+        if pixel % width / 100 % 3 == 1 {
+            *mark = 0;
+        }
+    }
+    striped
+}
+
 // Selector numbers of the combiner's second cycle, in their slots: only these are used.
 const SHADE: u32 = 4;
 const PRIMITIVE: u32 = 3;
@@ -219,6 +231,12 @@ pub fn all() -> Vec<Scene> {
             name: "400 draws of two small triangles, 1024 x 1024",
             draws: small(opaque(), shaded),
             frame: large.clone(),
+            reads: Reads::Nothing,
+        },
+        Scene {
+            name: "the same, a third of the frame unknown",
+            draws: small(opaque(), shaded),
+            frame: striped(&large),
             reads: Reads::Nothing,
         },
         words("every word, a run; Rust: 400 single reads", Reads::Singly { rgb_dither: 0 }),
