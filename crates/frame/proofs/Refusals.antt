@@ -3,58 +3,80 @@
 use mathlib.Core.Path.{_≡_, refl, sym, ap, _∙_}
 use mathlib.Core.Bool.{Bool, true, false, not, _&&_, _||_}
 use mathlib.Core.List.{List, [], _∷_}
-use Prim.Native.Nat.{ℕ, _+_, _*_, _%_, _≤_, _<_}
+use Prim.Native.Nat.{ℕ, zero, suc, _+_, _-_, _*_, _%_, _≤_, _<_}
 use native.Mathlib.Numerals.{add-one}
 use native.Mathlib.Omega.{arith}
 use borrow.Author.Tests.{leb-true, le-leb, lt-leb, eqb-true}
 use lib.Dec.{leb, eqb}
-use lib.ListN.{length, getD, drop, drop-of-length-le}
-use lib.Seq.{drop-cons}
+use lib.ListN.{length, getD, take, drop, drop-of-length-le}
+use lib.Seq.{drop-cons, drop-drop}
 use Rattle.cell.specs.Marks.{coverageMarked}
 use Rattle.frame.specs.Frame.{Frame}
 use Rattle.frame.specs.Checks.{sizeOk, sizesOk, lengthsOk, markOk, marksOk, every, atMost, frameRefusal}
 use Rattle.frame.proofs.Fits.{both-left, both-right, pixels-le}
-use Rattle.frame.proofs.Tests.{stops, goes-on}
 
--- ---- the loop over pixels
-marks-none : (cs : List ℕ) → marksOk cs [] ≡ true
-unfolding marksOk
-marks-none [] = refl
-marks-none (c ∷ cs) = refl
+together : (a b c : Bool) → ((a && b) && c) ≡ (a && (b && c))
+together true b c = refl
+together false b c = refl
 
-module _ (cs ms : List ℕ) (e : length cs ≡ length ms) {i : ℕ} (inv : marksOk (drop i cs) (drop i ms) ≡ marksOk cs ms) (h : i < length ms) where
-  marks-more : (markOk (getD ms i 0) (getD cs i 0) && marksOk (drop (i + 1) cs) (drop (i + 1) ms)) ≡ marksOk cs ms
-  unfolding marksOk
-  marks-more = let k : i < length cs = omega arith in rw add-one (rw (drop-cons cs i 0, drop-cons ms i 0) at inv)
+-- ---- a loop: what was found and the rest decide
+module _ (ok : Bool) {rest all : Bool} where
+  pub found-next : (next : Bool) {good test : Bool} → good ≡ test → rest ≡ (test && next) → (ok && rest) ≡ all → ((ok && good) && next) ≡ all
+  found-next next {test = test} g more inv = (λ j. (ok && g j) && next) ∙ together ok test next ∙ (λ j. ok && sym more j) ∙ inv
 
-  pub marks-stop : markOk (getD ms i 0) (getD cs i 0) ≡ false → false ≡ marksOk cs ms
-  marks-stop n = stops _ n ∙ marks-more
-
-  pub marks-next : markOk (getD ms i 0) (getD cs i 0) ≡ true → marksOk (drop (i + 1) cs) (drop (i + 1) ms) ≡ marksOk cs ms
-  marks-next n = goes-on n refl ∙ marks-more
-
-pub marks-done : (cs ms : List ℕ) {i : ℕ} → marksOk (drop i cs) (drop i ms) ≡ marksOk cs ms → length ms ≤ i → true ≡ marksOk cs ms
-marks-done cs ms {i} inv h = sym (marks-none (drop i cs)) ∙ ap (marksOk (drop i cs)) (sym (drop-of-length-le ms h)) ∙ inv
-
--- ---- a loop over one list: what was found and the rest decide
-module _ (test : ℕ → Bool) (l : List ℕ) (ok : Bool) {i : ℕ} (inv : (ok && every test (drop i l)) ≡ every test l) where
-  pub every-next : (good : Bool) → good ≡ test (getD l i 0) → i < length l → ((ok && good) && every test (drop (i + 1) l)) ≡ every test l
-  unfolding every
-  every-next good g h =
-      let m : (ok && (test (getD l i 0) && every test (drop (i + 1) l))) ≡ every test l = rw add-one (rw (drop-cons l i 0) at inv) in
-      (λ j. (ok && g j) && every test (drop (i + 1) l)) ∙ together ok _ _ ∙ m
-    where
-      together : (a b c : Bool) → ((a && b) && c) ≡ (a && (b && c))
-      together true b c = refl
-      together false b c = refl
-
-  pub every-done : length l ≤ i → ok ≡ every test l
-  unfolding every
-  every-done h = sym (alone ok) ∙ ap (λ (k : List ℕ). ok && every test k) (sym (drop-of-length-le l h)) ∙ inv
+  pub found-done : true ≡ rest → (ok && rest) ≡ all → ok ≡ all
+  found-done e inv = sym (alone ok) ∙ (λ j. ok && e j) ∙ inv
     where
       alone : (a : Bool) → (a && true) ≡ a
       alone true = refl
       alone false = refl
+
+-- ---- the rest of one list
+module _ (test : ℕ → Bool) (l : List ℕ) {i : ℕ} where
+  pub every-more : i < length l → every test (drop i l) ≡ (test (getD l i 0) && every test (drop (i + 1) l))
+  unfolding every
+  every-more h = rw (add-one, drop-cons l i 0)
+
+  pub every-none : length l ≤ i → true ≡ every test (drop i l)
+  unfolding every
+  every-none h = rw (drop-of-length-le l h)
+
+pub every-at : (test : ℕ → Bool) (l : List ℕ) (i : ℕ) → every test l ≡ true → i < length l → test (getD l i 0) ≡ true
+unfolding every
+every-at test [] i p h = absurd (omega arith)
+every-at test (n ∷ ns) zero p h = both-left (test n) (every test ns) p
+every-at test (n ∷ ns) (suc i) p h = every-at test ns i (both-right (test n) (every test ns) p) (omega arith)
+
+-- ---- the rest of the coverages and of the marks
+marks-nil : (cs : List ℕ) → true ≡ marksOk cs []
+unfolding marksOk
+marks-nil [] = refl
+marks-nil (c ∷ cs) = refl
+
+-- two adjoining parts decide
+marks-parts : (n : ℕ) (cs ms : List ℕ) → marksOk cs ms ≡ (marksOk (take n cs) (take n ms) && marksOk (drop n cs) (drop n ms))
+unfolding marksOk
+marks-parts zero cs ms = refl
+marks-parts (suc n) [] ms = refl
+marks-parts (suc n) (c ∷ cs) [] = marks-nil (drop n cs)
+marks-parts (suc n) (c ∷ cs) (m ∷ ms) = (λ j. markOk m c && marks-parts n cs ms j) ∙ sym (together (markOk m c) (marksOk (take n cs) (take n ms)) _)
+
+module _ (cs ms : List ℕ) where
+  pub marks-none : {i : ℕ} → length ms ≤ i → true ≡ marksOk (drop i cs) (drop i ms)
+  marks-none {i} h = marks-nil (drop i cs) ∙ ap (marksOk (drop i cs)) (sym (drop-of-length-le ms h))
+
+  pub marks-more :
+      {i : ℕ} → length cs ≡ length ms → i < length ms
+      → marksOk (drop i cs) (drop i ms) ≡ (markOk (getD ms i 0) (getD cs i 0) && marksOk (drop (i + 1) cs) (drop (i + 1) ms))
+  unfolding marksOk
+  marks-more {i} e h = let k : i < length cs = omega arith in rw (add-one, drop-cons cs i 0, drop-cons ms i 0)
+
+  pub marks-part :
+      {s e : ℕ} → s < e
+      → marksOk (drop s cs) (drop s ms) ≡ (marksOk (take (e - s) (drop s cs)) (take (e - s) (drop s ms)) && marksOk (drop e cs) (drop e ms))
+  marks-part {s} {e} h =
+      let k : s + (e - s) ≡ e = omega arith in
+      marks-parts (e - s) (drop s cs) (drop s ms) ∙ simp (drop-drop, k)
 
 -- ---- what the marks alone say of number 3
 pub marks-high : (cs ms : List ℕ) → length cs ≡ length ms → every (atMost 3) ms ≡ false → false ≡ marksOk cs ms

@@ -1,6 +1,6 @@
 // Why a call on the frame is turned away: numbers 1 to 3 of document 01, the first that holds.
 ghost use mathlib.Core.Path.{_≡_};
-ghost use mathlib.Core.Bool.{_&&_};
+ghost use mathlib.Core.Bool.{true, _&&_};
 ghost use Prim.Native.Nat.{_*_, _<_, _≤_};
 ghost use lib.Dec.{eqb};
 ghost use lib.ListN.{length, getD};
@@ -16,6 +16,11 @@ const MARK: u8 = 3;
 const COLOR_MARK: u8 = 1;
 
 const COVERAGE: u8 = 7;
+
+// Known and unknown pixels lie in regions, so the frame is looked at by parts: one that is all known or all unknown is quick.
+const PART: usize = 1024;
+
+const SMALL_PART: usize = 32;
 
 fn size_ok(n: u32) -> bool
     ensures { λ r. ⌜ r ≡ sizeOk n ⌝ }
@@ -77,15 +82,12 @@ fn all_marked(marks: &[u8]) -> bool
     all
 }
 
-// An unmarked coverage is not read.
+// An unmarked coverage is not read. The mark itself was checked before.
 fn mark_ok(coverages: &[u8], marks: &[u8], i: usize) -> bool
-    requires { ⌜ (i < length (now coverages)) × (i < length (now marks)) ⌝ }
+    requires { ⌜ (i < length (now coverages)) × ((i < length (now marks)) × (getD (now marks) i 0 ≤ 3)) ⌝ }
     ensures { λ r. ⌜ r ≡ markOk (getD (now (marks .entry)) i 0) (getD (now (coverages .entry)) i 0) ⌝ }
 {
     let mark = marks[i];
-    if MARK < mark {
-        return false;
-    }
     if !cell::coverage_marked(mark) {
         return true;
     }
@@ -93,23 +95,34 @@ fn mark_ok(coverages: &[u8], marks: &[u8], i: usize) -> bool
     coverage <= COVERAGE
 }
 
-// One pixel after the other: for marks of which some, not all, mark a coverage.
+// One pixel after the other: for marks of which some, not all, mark a coverage. The one branch is whether a coverage may be read.
 fn mixed_ok(coverages: &[u8], marks: &[u8]) -> bool
-    requires { ⌜ length (now coverages) ≡ length (now marks) ⌝ }
+    requires { ⌜ (length (now coverages) ≡ length (now marks)) × (every (atMost 3) (now marks) ≡ true) ⌝ }
     ensures { λ r. ⌜ r ≡ marksOk (now (coverages .entry)) (now (marks .entry)) ⌝ }
 {
+    let mut ok = true;
     let mut i = 0;
     while i < marks.len() {
-        if !mark_ok(coverages, marks, i) {
-            return false;
-        }
+        let good = mark_ok(coverages, marks, i);
+        ok = ok & good;
         i += 1;
     }
-    true
+    ok
 }
 
-// The marks first, alone: they say whether no coverage may be read, every one, or only some.
-fn marks_ok(coverages: &[u8], marks: &[u8]) -> bool
+// The last part may be shorter.
+fn part_end(start: usize, size: usize, end: usize) -> usize
+    requires { ⌜ (start < end) × (0 < size) ⌝ }
+    ensures { λ r. ⌜ (start < r) × (r ≤ end) ⌝ }
+{
+    if end - start < size {
+        return end;
+    }
+    start + size
+}
+
+// The marks first, alone: they say whether no coverage may be read, every one, or only some. Then a large part is taken by small ones.
+fn part_ok(coverages: &[u8], marks: &[u8], size: usize) -> bool
     requires { ⌜ length (now coverages) ≡ length (now marks) ⌝ }
     ensures { λ r. ⌜ r ≡ marksOk (now (coverages .entry)) (now (marks .entry)) ⌝ }
 {
@@ -122,7 +135,34 @@ fn marks_ok(coverages: &[u8], marks: &[u8]) -> bool
     if all_marked(marks) {
         return all_at_most(coverages, COVERAGE);
     }
-    mixed_ok(coverages, marks)
+    if size <= SMALL_PART {
+        return mixed_ok(coverages, marks);
+    }
+    parts_ok(coverages, marks, SMALL_PART)
+}
+
+fn parts_ok(coverages: &[u8], marks: &[u8], size: usize) -> bool
+    requires { ⌜ (length (now coverages) ≡ length (now marks)) × (0 < size) ⌝ }
+    ensures { λ r. ⌜ r ≡ marksOk (now (coverages .entry)) (now (marks .entry)) ⌝ }
+{
+    let mut start = 0;
+    while start < marks.len() {
+        let end = part_end(start, size, marks.len());
+        let some_coverages = &coverages[start..end];
+        let some_marks = &marks[start..end];
+        if !part_ok(some_coverages, some_marks, size) {
+            return false;
+        }
+        start = end;
+    }
+    true
+}
+
+fn marks_ok(coverages: &[u8], marks: &[u8]) -> bool
+    requires { ⌜ length (now coverages) ≡ length (now marks) ⌝ }
+    ensures { λ r. ⌜ r ≡ marksOk (now (coverages .entry)) (now (marks .entry)) ⌝ }
+{
+    parts_ok(coverages, marks, PART)
 }
 
 // The first of numbers 1 to 3 that holds, or 0.

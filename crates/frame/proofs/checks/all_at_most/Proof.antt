@@ -6,7 +6,7 @@ use native.Mathlib.Omega.{arith}
 use lib.ListN.{length, drop}
 use borrow.Author.Needs.{needs}
 use Rattle.frame.specs.Checks.{every, atMost}
-use Rattle.frame.proofs.Refusals.{every-next, every-done}
+use Rattle.frame.proofs.Refusals.{found-next, found-done, every-more, every-none}
 use Rattle.frame.proofs.checks.all_at_most.Statement.{statement}
 use Rattle.frame.proofs.checks.all_at_most.Tie as tie
 
@@ -31,10 +31,10 @@ loop-less c = omega arith
 loop-again : tie.Need-loop-again Inv-loop μ-loop
 loop-again c =
     let l = c .before .before in
-    every-next (atMost (l .before .args .most)) _ (l .loop .ok) (l .loop .inv) _ refl (c .before .loop-test .taken)
+    found-next (l .loop .ok) _ refl (every-more (atMost (l .before .args .most)) _ (c .before .loop-test .taken)) (l .loop .inv)
 
 returns : tie.Need-returns Inv-loop μ-loop
-returns c = every-done (atMost (c .before .before .args .most)) _ (c .before .loop .ok) (c .before .loop .inv) (c .loop-test .left)
+returns c = found-done (c .before .loop .ok) (every-none (atMost (c .before .before .args .most)) _ (c .loop-test .left)) (c .before .loop .inv)
 
 pub all-at-most-spec : {M : Type 1} → statement M
 all-at-most-spec =

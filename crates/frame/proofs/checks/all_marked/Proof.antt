@@ -7,7 +7,7 @@ use lib.ListN.{length, drop}
 use borrow.Author.Needs.{needs}
 use Rattle.cell.specs.Marks.{coverageMarked}
 use Rattle.frame.specs.Checks.{every}
-use Rattle.frame.proofs.Refusals.{every-next, every-done}
+use Rattle.frame.proofs.Refusals.{found-next, found-done, every-more, every-none}
 use Rattle.frame.proofs.checks.all_marked.Statement.{statement}
 use Rattle.frame.proofs.checks.all_marked.Tie as tie
 
@@ -35,10 +35,10 @@ loop-less c = omega arith
 loop-again : tie.Need-loop-again Inv-loop μ-loop
 loop-again c =
     let l = c .before .before .before in
-    every-next coverageMarked _ (l .loop .all) (l .loop .inv) _ (c .coverage-marked .ensures) (c .before .before .loop-test .taken)
+    found-next (l .loop .all) _ (c .coverage-marked .ensures) (every-more coverageMarked _ (c .before .before .loop-test .taken)) (l .loop .inv)
 
 returns : tie.Need-returns Inv-loop μ-loop
-returns c = every-done coverageMarked _ (c .before .loop .all) (c .before .loop .inv) (c .loop-test .left)
+returns c = found-done (c .before .loop .all) (every-none coverageMarked _ (c .loop-test .left)) (c .before .loop .inv)
 
 pub all-marked-spec : {M : Type 1} → statement M
 all-marked-spec =

@@ -1,30 +1,26 @@
--- `mixed_ok` meets its contract: the marks from i on decide.
+-- `mixed_ok` meets its contract: what was found and the pixels from i on decide.
 use mathlib.Core.Path.{_≡_, refl}
+use mathlib.Core.Bool.{_&&_}
 use Prim.Native.Nat.{_-_}
 use native.Mathlib.Omega.{arith}
+use borrow.Author.Tests.{leb-true}
 use lib.ListN.{length, drop}
-use Rattle.frame.specs.Checks.{marksOk}
-use Rattle.frame.proofs.Tests.{was-true, was-false}
-use Rattle.frame.proofs.Refusals.{marks-stop, marks-next, marks-done}
+use Rattle.frame.specs.Checks.{marksOk, atMost}
+use Rattle.frame.proofs.Refusals.{found-next, found-done, every-at, marks-more, marks-none}
 use Rattle.frame.proofs.checks.mixed_ok.Statement.{statement}
 use Rattle.frame.proofs.checks.mixed_ok.Tie as tie
 
 abbrev Inv-loop : tie.InvT-loop
-Inv-loop coverages marks i₀ i = marksOk (drop i coverages) (drop i marks) ≡ marksOk coverages marks
+Inv-loop coverages marks ok₀ i₀ ok i = (ok && marksOk (drop i coverages) (drop i marks)) ≡ marksOk coverages marks
 
 abbrev μ-loop : tie.MeasureT-loop
-μ-loop coverages marks i₀ i = length marks - i
+μ-loop coverages marks ok₀ i₀ ok i = length marks - i
 
 loop-holds : tie.Need-loop-holds Inv-loop μ-loop
 loop-holds c = refl
 
 mark-ok-requires : tie.Need-mark-ok-requires Inv-loop μ-loop
-mark-ok-requires c κs = (omega arith, omega arith)
-
-returns : tie.Need-returns Inv-loop μ-loop
-returns c =
-    marks-stop _ _ (c .before .before .before .before .before .before .pre) (c .before .before .before .loop .inv) (c .before .before .loop-test .taken)
-    (was-false (c .before .mark-ok .ensures) (c .if1 .taken))
+mark-ok-requires c κs = (omega arith, (omega arith, leb-true _ _ (every-at (atMost 3) _ _ (c .before .before .before .before .pre .1) (c .loop-test .taken))))
 
 add-i : tie.Need-add-i Inv-loop μ-loop
 add-i c = omega arith
@@ -34,22 +30,11 @@ loop-less c = omega arith
 
 loop-again : tie.Need-loop-again Inv-loop μ-loop
 loop-again c =
-    marks-next _ _ (c .before .before .before .before .before .before .pre) (c .before .before .before .loop .inv) (c .before .before .loop-test .taken)
-    (was-true (c .before .mark-ok .ensures) (c .if1 .left))
+    let l = c .before .before in
+    found-next (l .loop .ok) _ (c .mark-ok .ensures) (marks-more _ _ (l .before .before .before .pre .0) (c .before .loop-test .taken)) (l .loop .inv)
 
-returns-2 : tie.Need-returns-2 Inv-loop μ-loop
-returns-2 c = marks-done _ _ (c .before .loop .inv) (c .loop-test .left)
+returns : tie.Need-returns Inv-loop μ-loop
+returns c = found-done (c .before .loop .ok) (marks-none _ _ (c .loop-test .left)) (c .before .loop .inv)
 
 pub mixed-ok-spec : {M : Type 1} → statement M
-mixed-ok-spec =
-    tie.close
-    (tie.spec
-    Inv-loop
-    μ-loop
-    loop-holds
-    mark-ok-requires
-    returns
-    add-i
-    loop-less
-    loop-again
-    returns-2)
+mixed-ok-spec = tie.close (tie.spec Inv-loop μ-loop loop-holds mark-ok-requires add-i loop-less loop-again returns)
