@@ -1,10 +1,13 @@
 -- Why something is turned away: numbers 1 to 3 of document 01, in their order; 0 means that none of them holds. Definitions only.
 use Prim.Native.Nat.{ℕ, zero, suc, _*_}
-use mathlib.Core.Bool.{Bool, true, cond, not, _&&_, _||_}
+use mathlib.Core.Path.{_≡_}
+use mathlib.Core.Bool.{Bool, true, false, cond, not, _&&_, _||_}
 use mathlib.Core.List.{List, [], _∷_}
 use lib.Dec.{leb, eqb}
 use lib.ListN.{length}
 use Rattle.cell.specs.Marks.{coverageMarked}
+use Rattle.frame.specs.declared.checks.Told.{Told}
+use Rattle.frame.specs.declared.checks.Told.the-variants.{Good, Bad, Mixed}
 use Rattle.frame.specs.Frame.{Frame}
 
 -- 1: width and height are 1 to 1,024
@@ -34,6 +37,12 @@ every test (n ∷ ns) = test n && every test ns
 
 abbrev pub atMost : ℕ → ℕ → Bool
 atMost most n = leb n most
+
+-- what is told of a part of the frame
+unfoldable pub Tells : List ℕ → List ℕ → Told → Type 0
+Tells cs ms Good = true ≡ marksOk cs ms
+Tells cs ms Bad = false ≡ marksOk cs ms
+Tells cs ms Mixed = every (atMost 3) ms ≡ true
 
 -- the first of numbers 1 to 3 that holds
 unfoldable pub frameRefusal : Frame → ℕ → ℕ → ℕ

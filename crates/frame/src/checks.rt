@@ -6,7 +6,7 @@ ghost use lib.Dec.{eqb};
 ghost use lib.ListN.{length, getD};
 ghost use Rattle.cell.specs.Marks.{coverageMarked};
 ghost use Rattle.frame.specs.Frame.{frameOf};
-ghost use Rattle.frame.specs.Checks.{sizeOk, sizesOk, markOk, marksOk, every, atMost, frameRefusal};
+ghost use Rattle.frame.specs.Checks.{sizeOk, sizesOk, markOk, marksOk, every, atMost, Tells, frameRefusal};
 
 const SIZE: u32 = 1024;
 
@@ -17,10 +17,15 @@ const COLOR_MARK: u8 = 1;
 
 const COVERAGE: u8 = 7;
 
-// Known and unknown pixels lie in regions, so the frame is looked at by parts: one that is all known or all unknown is quick.
-const PART: usize = 1024;
+// How many pixels are looked at together where some coverages are marked and some are not.
+const PART: usize = 32;
 
-const SMALL_PART: usize = 32;
+// What marks and, where every one is marked, coverages tell of number 3. Mixed: no mark is too high.
+pub enum Told {
+    Good,
+    Bad,
+    Mixed,
+}
 
 fn size_ok(n: u32) -> bool
     ensures { λ r. ⌜ r ≡ sizeOk n ⌝ }
@@ -110,47 +115,59 @@ fn mixed_ok(coverages: &[u8], marks: &[u8]) -> bool
     ok
 }
 
-// The last part may be shorter.
-fn part_end(start: usize, size: usize, end: usize) -> usize
-    requires { ⌜ (start < end) × (0 < size) ⌝ }
-    ensures { λ r. ⌜ (start < r) × (r ≤ end) ⌝ }
+// The marks alone say whether no coverage may be read, every one, or only some. Each is a pass without a branch.
+fn look(coverages: &[u8], marks: &[u8]) -> Told
+    requires { ⌜ length (now coverages) ≡ length (now marks) ⌝ }
+    ensures { λ r. ⌜ Tells (now (coverages .entry)) (now (marks .entry)) r ⌝ }
 {
-    if end - start < size {
-        return end;
+    if all_at_most(marks, COLOR_MARK) {
+        return Told::Good;
     }
-    start + size
+    if !all_at_most(marks, MARK) {
+        return Told::Bad;
+    }
+    if !all_marked(marks) {
+        return Told::Mixed;
+    }
+    if all_at_most(coverages, COVERAGE) {
+        return Told::Good;
+    }
+    Told::Bad
 }
 
-// The marks first, alone: they say whether no coverage may be read, every one, or only some. Then a large part is taken by small ones.
-fn part_ok(coverages: &[u8], marks: &[u8], size: usize) -> bool
+fn part_ok(coverages: &[u8], marks: &[u8]) -> bool
     requires { ⌜ length (now coverages) ≡ length (now marks) ⌝ }
     ensures { λ r. ⌜ r ≡ marksOk (now (coverages .entry)) (now (marks .entry)) ⌝ }
 {
-    if all_at_most(marks, COLOR_MARK) {
-        return true;
+    match look(coverages, marks) {
+        Told::Good => true,
+        Told::Bad => false,
+        Told::Mixed => mixed_ok(coverages, marks),
     }
-    if !all_at_most(marks, MARK) {
-        return false;
-    }
-    if all_marked(marks) {
-        return all_at_most(coverages, COVERAGE);
-    }
-    if size <= SMALL_PART {
-        return mixed_ok(coverages, marks);
-    }
-    parts_ok(coverages, marks, SMALL_PART)
 }
 
-fn parts_ok(coverages: &[u8], marks: &[u8], size: usize) -> bool
-    requires { ⌜ (length (now coverages) ≡ length (now marks)) × (0 < size) ⌝ }
+// The last part may be shorter.
+fn part_end(start: usize, end: usize) -> usize
+    requires { ⌜ start < end ⌝ }
+    ensures { λ r. ⌜ (start < r) × (r ≤ end) ⌝ }
+{
+    if end - start < PART {
+        return end;
+    }
+    start + PART
+}
+
+// Part after part: known and unknown pixels mostly lie together, so that few parts are mixed.
+fn parts_ok(coverages: &[u8], marks: &[u8]) -> bool
+    requires { ⌜ length (now coverages) ≡ length (now marks) ⌝ }
     ensures { λ r. ⌜ r ≡ marksOk (now (coverages .entry)) (now (marks .entry)) ⌝ }
 {
     let mut start = 0;
     while start < marks.len() {
-        let end = part_end(start, size, marks.len());
+        let end = part_end(start, marks.len());
         let some_coverages = &coverages[start..end];
         let some_marks = &marks[start..end];
-        if !part_ok(some_coverages, some_marks, size) {
+        if !part_ok(some_coverages, some_marks) {
             return false;
         }
         start = end;
@@ -162,7 +179,11 @@ fn marks_ok(coverages: &[u8], marks: &[u8]) -> bool
     requires { ⌜ length (now coverages) ≡ length (now marks) ⌝ }
     ensures { λ r. ⌜ r ≡ marksOk (now (coverages .entry)) (now (marks .entry)) ⌝ }
 {
-    parts_ok(coverages, marks, PART)
+    match look(coverages, marks) {
+        Told::Good => true,
+        Told::Bad => false,
+        Told::Mixed => parts_ok(coverages, marks),
+    }
 }
 
 // The first of numbers 1 to 3 that holds, or 0.
