@@ -2,5 +2,3 @@
 pub mod Combine
 pub mod Strict
 pub mod New
-pub mod Shaded
-pub mod Mixer

@@ -12,9 +12,6 @@ use selectors::AlphaIn;
 use selectors::ColorIn;
 use selectors::CycleSel;
 
-pub mod mixer; // a combiner resolved for a draw
-mod shaded; // whether the colour turns on the shade
-
 pub struct Combiner {
     pub selectors: CycleSel,
     pub prim: Rgba,

@@ -28,7 +28,7 @@ use Rattle.paint.specs.Steps.{Drew}
 use Rattle.paint.specs.Pixel.{Room}
 use Rattle.frame.specs.Checks.{frameRefusal, orElse}
 use Rattle.draw.specs.Checks.{scissorOk, flagsOk, inputsOk, entryRefusal}
-use Rattle.combiner.proofs.Mixes.{new-mixes}
+use Rattle.mixer.proofs.Mixes.{new-mixes}
 use Rattle.paint.specs.Pen.{Mixed}
 use Rattle.draw.specs.Draw.{DrawArgs, Plan, emittedBy, admittedPlan, madePlan, refuseOr, planOf, planBy, drawnMeans, Numbered, answerBy, frameBy, drawAnswer, drawFrame}
 use Rattle.frame.proofs.Fits.{accepted}

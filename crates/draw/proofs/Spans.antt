@@ -8,7 +8,7 @@ use lib.Bits.{bitAnd}
 use Rattle.mode.specs.declared.Rgba.{Rgba}
 use Rattle.combiner.specs.declared.Color.{Color}
 use Rattle.combiner.specs.Combine.{colorOf, fullShade}
-use Rattle.combiner.specs.Mixer.{colorValue, mixedBy, mixerOf}
+use Rattle.mixer.specs.Mixer.{colorValue, mixedBy, mixerOf}
 use Rattle.vertex.specs.declared.Vertex.{Vertex}
 use Rattle.vertex.specs.declared.row.ShadeRow.{ShadeRow}
 use Rattle.vertex.specs.Row.{rowOf, shadeOn}

@@ -9,7 +9,7 @@ use lib.Ieee.{Float}
 use lib.ListN.{length, length-append}
 use Rattle.mode.specs.declared.RenderMode.{RenderMode}
 use Rattle.combiner.specs.declared.Combiner.{Combiner}
-use Rattle.combiner.specs.Mixer.{colorValue}
+use Rattle.mixer.specs.Mixer.{colorValue}
 use Rattle.raster.specs.declared.Fragment.{Fragment}
 use Rattle.raster.specs.declared.Fragment.the-variants.{Empty, Covered}
 use Rattle.raster.specs.Emitted.{Emit, shown, covered, emits}

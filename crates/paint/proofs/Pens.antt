@@ -10,10 +10,10 @@ use Rattle.mode.specs.declared.RenderMode.{RenderMode}
 use Rattle.mode.specs.declared.Rgba.{Rgba}
 use Rattle.combiner.specs.declared.Combiner.{Combiner}
 use Rattle.combiner.specs.Combine.{colorOf, fullShade}
-use Rattle.combiner.specs.declared.mixer.Mixer.{Mixer}
-use Rattle.combiner.specs.Mixer.{colorValue, mixedBy, mixerOf}
-use Rattle.combiner.specs.Shaded.{shadeUsed}
-use Rattle.combiner.proofs.Flat.{flat-color}
+use Rattle.mixer.specs.declared.Mixer.{Mixer}
+use Rattle.mixer.specs.Mixer.{colorValue, mixedBy, mixerOf}
+use Rattle.mixer.specs.Shaded.{shadeUsed}
+use Rattle.mixer.proofs.Flat.{flat-color}
 use Rattle.blender.specs.declared.Mux.{Mux}
 use Rattle.blender.specs.Mux.{muxOf, pick}
 use Rattle.blender.specs.Blend.{sourceOf, ownOf}

@@ -9,9 +9,9 @@ use Rattle.mode.specs.declared.RenderMode.{RenderMode}
 use Rattle.mode.specs.declared.Rgba.{Rgba}
 use Rattle.combiner.specs.declared.Combiner.{Combiner}
 use Rattle.combiner.specs.declared.Color.{Color}
-use Rattle.combiner.specs.declared.mixer.Mixer.{Mixer}
+use Rattle.mixer.specs.declared.Mixer.{Mixer}
 use Rattle.combiner.specs.Combine.{colorOf, fullShade}
-use Rattle.combiner.specs.Mixer.{colorValue, mixedBy, mixerOf}
+use Rattle.mixer.specs.Mixer.{colorValue, mixedBy, mixerOf}
 use Rattle.blender.specs.Mux.{muxOf}
 use Rattle.blender.specs.Known.{opaqueOf}
 use Rattle.blender.specs.Layer.{layeredOf, steadyOf, layerOf}

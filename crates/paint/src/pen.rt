@@ -8,7 +8,7 @@ use blender::layer::Layer;
 use blender::layer::layer_of;
 use cell::Colors;
 use combiner::Combiner;
-use combiner::mixer::Mixer;
+use mixer::Mixer;
 use mode::RenderMode;
 use mode::Rgba;
 
@@ -45,7 +45,7 @@ pub fn pen_of(mode: RenderMode, combiner: Combiner) -> Pen
     requires { ⌜ Mixed combiner ⌝ }
     ensures { λ r. ⌜ r .mode ≡ mode ⌝ ∗ ⌜ r .combiner ≡ combiner ⌝ ∗ ⌜ Inked r ⌝ }
 {
-    let mixer = combiner.mixer();
+    let mixer = mixer::mixer_of(combiner);
     let color = mixer.color(combiner::full_shade());
     let own = cell::own_colors(mode, combiner, color);
     let seven = cell::seven(mode);
@@ -55,7 +55,7 @@ pub fn pen_of(mode: RenderMode, combiner: Combiner) -> Pen
     let layered = blender::layer::layered(mode, color.a);
     let steady = blender::layer::steady(mode);
     let even = layered | (steady | opaque);
-    let shaded = combiner.uses_shade();
+    let shaded = mixer::shaded::uses_shade(combiner);
     let mux = blender::decode_mux(mode.blender_mux);
     let plain = mux.p == 0;
     Pen {

@@ -6,9 +6,9 @@ use Prim.Native.Nat.{ℕ, _+_, _*_}
 use lib.Ieee.{Float}
 use Rattle.combiner.specs.declared.Combiner.{Combiner}
 use Rattle.combiner.specs.declared.Color.{Color}
-use Rattle.combiner.specs.declared.mixer.Mixer.{Mixer}
+use Rattle.mixer.specs.declared.Mixer.{Mixer}
 use Rattle.combiner.specs.Combine.{colorOf, fullShade}
-use Rattle.combiner.specs.Mixer.{colorValue, mixedBy}
+use Rattle.mixer.specs.Mixer.{colorValue, mixedBy}
 use Rattle.mode.specs.declared.Rgba.{Rgba}
 use Rattle.vertex.specs.declared.Vertex.{Vertex}
 use Rattle.vertex.specs.Shade.{shadeOf}

@@ -13,9 +13,9 @@ use Rattle.mode.specs.declared.Rgba.{Rgba}
 use Rattle.combiner.specs.declared.Combiner.{Combiner}
 use Rattle.combiner.specs.declared.Color.{Color}
 use Rattle.combiner.specs.declared.Color.the-variants as color
-use Rattle.combiner.specs.declared.mixer.Mixer.{Mixer}
+use Rattle.mixer.specs.declared.Mixer.{Mixer}
 use Rattle.combiner.specs.Combine.{colorOf, fullShade}
-use Rattle.combiner.specs.Mixer.{colorValue, mixedBy}
+use Rattle.mixer.specs.Mixer.{colorValue, mixedBy}
 use Rattle.vertex.specs.declared.Vertex.{Vertex}
 use Rattle.vertex.specs.Sorted.{sorted}
 use Rattle.vertex.specs.Shade.{culledOf, shadeOf}

@@ -5,8 +5,8 @@ use borrow.Author.Needs.{needs}
 use Rattle.paint.proofs.pen.pen_of.Statement.{statement}
 use Rattle.paint.proofs.pen.pen_of.Tie as tie
 
-mixer-requires : tie.Need-mixer-requires
-mixer-requires c κs = search needs
+mixer-of-requires : tie.Need-mixer-of-requires
+mixer-of-requires c κs = search needs
 
 full-shade-requires : tie.Need-full-shade-requires
 full-shade-requires c κs = search needs
@@ -46,7 +46,7 @@ returns c = (
   refl,
   (
     refl,
-    inked _ _ (c .before .before .before .before .before .before .before .before .before .before .before .before .before .pre) _ _ _ _ _ _ (c .before .before .before .before .before .before .before .before .before .before .before .before .mixer .ensures) (c .before .before .before .before .before .before .before .before .before .before .before .full-shade .ensures) (c .before .before .before .before .before .before .before .before .before .before .color .ensures) (c .before .before .before .before .before .before .before .before .before .own-colors .ensures) (c .before .before .before .before .before .before .before .before .seven .ensures)
+    inked _ _ (c .before .before .before .before .before .before .before .before .before .before .before .before .before .pre) _ _ _ _ _ _ (c .before .before .before .before .before .before .before .before .before .before .before .before .mixer-of .ensures) (c .before .before .before .before .before .before .before .before .before .before .before .full-shade .ensures) (c .before .before .before .before .before .before .before .before .before .before .color .ensures) (c .before .before .before .before .before .before .before .before .before .own-colors .ensures) (c .before .before .before .before .before .before .before .before .seven .ensures)
         (c .before .before .before .before .before .before .before .sets .ensures) (c .before .before .before .before .before .before .layer-of .ensures) (c .before .before .before .before .before .opaque .ensures) (c .before .before .before .before .layered .ensures) (c .before .before .before .steady .ensures) (c .before .before .uses-shade .ensures) (c .before .decode-mux .ensures),
   ),
 )
@@ -55,7 +55,7 @@ pub pen-of-spec : {M : Type 1} → statement M
 pen-of-spec =
     tie.close
     (tie.spec
-    mixer-requires
+    mixer-of-requires
     full-shade-requires
     color-requires
     own-colors-requires

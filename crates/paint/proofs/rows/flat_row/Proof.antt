@@ -4,7 +4,7 @@ use native.Mathlib.Omega.{arith}
 use mathlib.Core.Bool.{cond}
 use lib.Ieee.{Float}
 use Rattle.num.specs.Color.{f0}
-use Rattle.combiner.specs.Mixer.{colorValue}
+use Rattle.mixer.specs.Mixer.{colorValue}
 use Rattle.edges.specs.Sample.{maskOf}
 use Rattle.raster.specs.declared.Fragment.{Fragment}
 use Rattle.raster.specs.declared.Fragment.the-variants.{Empty}

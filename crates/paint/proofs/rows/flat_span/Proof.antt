@@ -6,7 +6,7 @@ use mathlib.Core.Path.{refl, ap}
 use mathlib.Core.Bool.{cond}
 use lib.Ieee.{Float}
 use Rattle.num.specs.Color.{f0}
-use Rattle.combiner.specs.Mixer.{colorValue}
+use Rattle.mixer.specs.Mixer.{colorValue}
 use Rattle.edges.specs.Sample.{maskOf}
 use Rattle.raster.specs.declared.Fragment.the-variants.{Empty}
 use Rattle.raster.specs.Emitted.{shown, covered}

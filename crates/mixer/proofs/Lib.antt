@@ -1,0 +1,3 @@
+-- The laws of `mixer` for the crates above it.
+pub mod Flat
+pub mod Mixes

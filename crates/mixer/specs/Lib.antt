@@ -1,0 +1,3 @@
+-- The definitions that the contracts of `mixer` cite.
+pub mod Shaded
+pub mod Mixer
