@@ -20,8 +20,6 @@ use raster::Scissor;
 use rectangle::Sides;
 
 mod checks; // numbers 4 and 5
-mod triangles; // the pixels of triangles
-mod rectangles; // and of a rectangle
 
 pub enum Drawn {
     Emitted(u64),

@@ -1,8 +1,8 @@
--- Parts of a row drawn one after the other, how many pixels a row emits, and a full pixel of the pen's own colour. Assumes nothing.
+-- Parts of a row drawn one after the other, how many pixels a row and rows emit, and a full pixel of the pen's own colour. Assumes nothing.
 use mathlib.Core.Path.{_≡_, refl, sym, ap, subst, _∙_}
 use mathlib.Core.Bool.{Bool, true, false, cond}
 use mathlib.Core.List.{List, [], _∷_, _++_, foldl, foldl-append}
-use Prim.Native.Nat.{ℕ, zero, suc, _+_, _-_, _≤_}
+use Prim.Native.Nat.{ℕ, zero, suc, _+_, _-_, _*_, _≤_}
 use native.Mathlib.Nat.{add-zero}
 use native.Mathlib.Omega.{arith}
 use lib.Ieee.{Float}
@@ -79,6 +79,12 @@ pub few :
     {mode : RenderMode} {k : Combiner} {m n : ℕ} {f g : Frame} (r : ℕ → Fragment) (p : ℕ → ℕ) (a b : ℕ)
     → Drew mode k m (from (λ (x : ℕ). emits (r x) (p x)) a b) f g n → n ≤ b - a
 few r p a b d = subst (λ (j : ℕ). j ≤ b - a) (sym (d .ran .count)) (row-most r p a b)
+
+pub rows-most :
+    (r : ℕ → ℕ → Fragment) (p : ℕ → ℕ → ℕ) (a b c d : ℕ) → b ≤ 1024
+    → length (from (λ (y : ℕ). from (λ (x : ℕ). emits (r y x) (p y x)) a b) c d) ≤ (d - c) * 1024
+rows-most r p a b c d h =
+    parts-bound (λ (y : ℕ). from (λ (x : ℕ). emits (r y x) (p y x)) a b) 1024 (λ y. omega (arith, row-most (r y) (p y) a b)) (d - c) c
 
 -- ---- a full pixel of the pen's own colour
 pub full-shown : (antialias : Bool) → shown antialias 255 ≡ true

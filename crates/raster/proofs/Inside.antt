@@ -1,6 +1,6 @@
 -- A scissor's area: it lies inside the frame, and going over its rows and columns is going over the pixels inside the scissor. Where the scissor starts
 -- past the frame's end, both are empty. Assumes nothing.
-use mathlib.Core.Path.{_≡_, sym, ap, _∙_}
+use mathlib.Core.Path.{_≡_, sym, ap, subst, _∙_}
 use mathlib.Core.List.{List}
 use Prim.Native.Nat.{ℕ, _≤_, min}
 use native.Mathlib.Omega.{arith}
@@ -19,9 +19,12 @@ pub record Bounded (a : Area) (w h : ℕ) : Type 0 where
   pub down : a .top ≤ a .bottom
   pub bottom-in : a .bottom ≤ h
 
-pub area-bounded : (s : Scissor) (w h : ℕ) → Bounded (areaOf s w h) w h
+area-bounded : (s : Scissor) (w h : ℕ) → Bounded (areaOf s w h) w h
 unfolding areaOf
 area-bounded s w h = record { across = omega arith; right-in = omega arith; down = omega arith; bottom-in = omega arith }
+
+pub bounded : (s : Scissor) (w h : ℕ) {a : Area} → a ≡ areaOf s w h → Bounded a w h
+bounded s w h e = subst (λ (a : Area). Bounded a w h) (sym e) (area-bounded s w h)
 
 -- a start past the end may as well be the end
 from-least : {A : Type 0} (c : ℕ → List A) (a b : ℕ) → from c a b ≡ from c (min a b) b

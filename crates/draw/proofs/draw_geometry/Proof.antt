@@ -1,19 +1,30 @@
 -- `draw_geometry` meets its contract, by what the geometry is.
-use mathlib.Core.Path.{_≡_, refl, sym, subst}
-use mathlib.Core.Bool.{true}
+use mathlib.Core.Path.{_≡_, refl, sym, ap, subst}
+use mathlib.Core.Bool.{Bool, true}
+use mathlib.Core.List.{List}
+use Prim.Native.Nat.{ℕ}
 use denote.Ref.{now}
+use lib.Ieee.{Float}
 use Rattle.mode.specs.declared.RenderMode.{RenderMode}
 use Rattle.combiner.specs.declared.Combiner.{Combiner}
 use Rattle.raster.specs.declared.Geometry.{Geometry}
 use Rattle.raster.specs.declared.Geometry.the-variants.{Triangles}
+use Rattle.raster.specs.declared.Scissor.{Scissor}
 use Rattle.raster.specs.Admitted.{admittedOf}
 use Rattle.raster.specs.Emitted.{geometryEmits}
+use Rattle.frame.specs.Frame.{Frame}
+use Rattle.paint.specs.Steps.{Drew}
 use Rattle.paint.specs.Pen.{Mixed}
+use Rattle.paint.proofs.Drawing.{drew-as}
 use Rattle.paint.proofs.Pens.{by-pen}
-use Rattle.draw.proofs.Shapes.{covers}
 use borrow.Author.Needs.{needs}
 use Rattle.draw.proofs.draw_geometry.Statement.{statement}
 use Rattle.draw.proofs.draw_geometry.Tie as tie
+
+-- what a draw covers, by the case of its geometry
+module _ (mode : RenderMode) (k : Combiner) (cull : Bool) (s : Scissor) (w h : ℕ) (vs : List Float) (ps is : List ℕ) (geometry : Geometry) {m : ℕ} {f g : Frame} {n : ℕ} where
+  covers : {x : Geometry} → geometry ≡ x → Drew mode k m (geometryEmits mode k cull s w h vs ps is x) f g n → Drew mode k m (geometryEmits mode k cull s w h vs ps is geometry) f g n
+  covers e = drew-as (ap (geometryEmits mode k cull s w h vs ps is) (sym e))
 
 pen-of-requires : tie.Need-pen-of-requires
 pen-of-requires c κs = c .before .before .before .before .before .before .pre .0 .1

@@ -1,0 +1,2 @@
+-- The definitions that the contracts of `rectangles` cite.
+pub mod Parts

@@ -1,0 +1,3 @@
+-- Laws of triangles, which the proofs of functions share.
+pub mod Shapes
+pub mod Spans

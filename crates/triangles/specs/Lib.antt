@@ -1,0 +1,2 @@
+-- The definitions that the contracts of `triangles` cite.
+pub mod Parts
