@@ -1,11 +1,11 @@
 -- Pixels of one colour. One that is layered has a known colour wherever the memory has, by sums of what `layer_of` worked out; one that is steady stands
 -- alone where the samples overflow. Neither turns on the shade's alpha. Assumes nothing.
-use mathlib.Core.Path.{_≡_, refl, sym, ap, _∙_}
+use mathlib.Core.Path.{_≡_, refl, sym, _∙_}
 use Prim.Native.Nat.{ℕ, _+_}
 use mathlib.Core.Bool.{Bool, true, false, cond, not, _&&_, _||_}
 use native.Mathlib.Omega.{arith}
 use borrow.Author.Tests.{eqb-true, le-leb}
-use lib.Dec.{eqb, leb}
+use lib.Dec.{eqb}
 use lib.IntN.{pos}
 use lib.Ieee.{Float, binary32, ofInt, add, sub, mul, div}
 use Rattle.num.specs.Color.{f0, f1}
@@ -15,7 +15,7 @@ use Rattle.mode.specs.declared.Rgba.{Rgba}
 use Rattle.combiner.specs.declared.Combiner.{Combiner}
 use Rattle.blender.specs.declared.Coverage.{Coverage}
 use Rattle.blender.specs.declared.Coverage.the-variants.{Unknown, Known}
-use Rattle.blender.specs.Mux.{muxOf, pick}
+use Rattle.blender.specs.Mux.{muxOf}
 use Rattle.blender.specs.Coverage.{overflow, overflows, blends}
 use Rattle.blender.specs.Known.{reject, alone, missing, anyCoverage, whereUnknown, colorKnown, opaqueOf}
 use Rattle.blender.specs.Blend.{f8, sourceOf, factorA, factorB, mixedOf, bytesOf, blendOf, ownOf}

@@ -1,5 +1,5 @@
 -- An opaque pixel: its colour is known whatever is known of the memory, and is P in bytes. Assumes nothing.
-use mathlib.Core.Path.{_≡_, refl, sym, ap, ap₂, _∙_}
+use mathlib.Core.Path.{_≡_, refl, sym, ap, _∙_}
 use Prim.Native.Nat.{ℕ}
 use mathlib.Core.Bool.{Bool, true, false, cond, not, _&&_, _||_}
 use native.Mathlib.Omega.{arith}
@@ -9,10 +9,9 @@ use Rattle.num.specs.Whole.{byteOf}
 use Rattle.mode.specs.declared.RenderMode.{RenderMode}
 use Rattle.mode.specs.declared.Rgba.{Rgba}
 use Rattle.combiner.specs.declared.Combiner.{Combiner}
-use Rattle.blender.specs.declared.Bytes.{Bytes}
 use Rattle.blender.specs.declared.Coverage.{Coverage}
-use Rattle.blender.specs.declared.Coverage.the-variants.{Unknown, Known}
-use Rattle.blender.specs.Mux.{muxOf, pick}
+use Rattle.blender.specs.declared.Coverage.the-variants.{Known}
+use Rattle.blender.specs.Mux.{muxOf}
 use Rattle.blender.specs.Coverage.{overflows, blends}
 use Rattle.blender.specs.Known.{reject, alone, missing, anyCoverage, whereUnknown, colorKnown, opaqueOf}
 use Rattle.blender.specs.Blend.{sourceOf, factorA, factorB, mixedOf, bytesOf, blendOf, ownOf}

@@ -1,7 +1,7 @@
 -- Rules F1 to F5 of document 01, "The frame (ours)": what one emitted pixel does to the five bytes of its place in the frame, all on the old bytes.
 -- Definitions only. F1, F3 and F5 rest on `color_known`, `blend` and `destination` of the Rust, whose definitions are crate blender's.
 use Prim.Native.Nat.{ℕ, _-_}
-use mathlib.Core.Bool.{Bool, true, false, cond, not, _&&_, _||_}
+use mathlib.Core.Bool.{Bool, cond, not, _&&_}
 use lib.IntN.{pos}
 use lib.Dec.{eqb}
 use lib.Ieee.{Float, binary32, ofInt, div}
@@ -10,7 +10,6 @@ use Rattle.num.specs.Whole.{f255}
 use Rattle.mode.specs.declared.RenderMode.{RenderMode}
 use Rattle.mode.specs.declared.Rgba.{Rgba}
 use Rattle.combiner.specs.declared.Combiner.{Combiner}
-use Rattle.blender.specs.declared.Bytes.{Bytes}
 use Rattle.blender.specs.declared.Coverage.{Coverage}
 use Rattle.blender.specs.declared.Coverage.the-variants.{Unknown, Known}
 use Rattle.blender.specs.Coverage.{destinationOf}

@@ -14,14 +14,14 @@ use Rattle.selectors.specs.declared.AlphaIn.{AlphaIn}
 use Rattle.selectors.specs.declared.AlphaIn.the-variants as ain
 use Rattle.combiner.specs.declared.Combiner.{Combiner}
 use Rattle.combiner.specs.declared.Input.{Input}
-use Rattle.combiner.specs.declared.Input.the-variants.{Value, Refused}
+use Rattle.combiner.specs.declared.Input.the-variants.{Value}
 use Rattle.combiner.specs.declared.Made.the-variants.{With}
 use Rattle.combiner.specs.Combine.{element, colorInput, alphaInput, mixed, joined, channelAt, alphaAt, colorOf, fullShade}
 use Rattle.combiner.specs.Strict.{colorNumber, alphaNumber}
 use Rattle.combiner.specs.New.{newOf}
 use Rattle.mixer.specs.Shaded.{shadeAlpha}
 use Rattle.mixer.specs.Mixer.{inputOf, inputBy, channelsOf, mixedBy, colorValue, orZero, shadeFlag, shadeAlphaFlag, kindOf, operandOf, mixerOf}
-use Rattle.combiner.proofs.Known.{missing, refused, mixed-missing, joined-refused, Valued, new-colors}
+use Rattle.combiner.proofs.Known.{missing, refused, mixed-missing, joined-refused, new-colors}
 use Rattle.mixer.proofs.Flat.{left, right}
 
 -- ---- the inputs

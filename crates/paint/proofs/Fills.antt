@@ -1,13 +1,12 @@
 -- Full pixels of one colour: what is stored at a pixel, a run of them, and that it is what the emitted pixels give. Assumes nothing.
 use mathlib.Core.Path.{_≡_, refl, sym, ap, subst, _∙_}
 use mathlib.Core.Bool.{Bool, true, false, cond, _||_}
-use mathlib.Core.List.{List, [], _∷_, _++_, foldl, foldl-append}
+use mathlib.Core.List.{List, [], _∷_, _++_, foldl}
 use Prim.Native.Nat.{ℕ, zero, suc, _+_, _-_, _*_, _≤_, _<_}
 use native.Mathlib.Omega.{arith}
 use lib.Count.{ones, ones-step}
 use lib.Ieee.{Float}
-use lib.ListN.{length, getD, set, length-set, length-append}
-use Rattle.blender.specs.declared.Coverage.{Coverage}
+use lib.ListN.{length, getD, set, length-set}
 use Rattle.blender.specs.declared.Coverage.the-variants.{Unknown, Known}
 use Rattle.blender.specs.declared.layer.Layer.{Layer}
 use Rattle.blender.specs.Known.{opaqueOf}
@@ -15,18 +14,18 @@ use Rattle.blender.specs.Layer.{steadyOf}
 use Rattle.edges.specs.Sample.{countOf}
 use Rattle.cell.specs.declared.Cell.{Cell}
 use Rattle.cell.specs.declared.Colors.{Colors}
-use Rattle.cell.specs.Marks.{colorMarked, coverageMarked, coverageOf, markOf}
-use Rattle.cell.specs.Rules.{ruleF4, coverageByte}
+use Rattle.cell.specs.Marks.{colorMarked, coverageMarked, markOf}
+use Rattle.cell.specs.Rules.{coverageByte}
 use Rattle.cell.specs.Own.{overColors, fullAfter, fullCell, ownFull, overFull}
 use Rattle.cell.proofs.Own.{own-full, over-full}
-use Rattle.raster.specs.Parts.{from, Ran}
+use Rattle.raster.specs.Parts.{from}
 use Rattle.raster.specs.Emitted.{Emit}
 use Rattle.raster.proofs.Parts.{from-more, from-none}
 use Rattle.frame.specs.Frame.{Frame, Fit, frameOf, cellAt, putCell, putIf}
 use Rattle.paint.specs.declared.pen.Pen.{Pen}
 use Rattle.paint.specs.Steps.{Drew, sourceOf, stepFrame}
 use Rattle.paint.specs.Pixel.{emitOf, Room}
-use Rattle.paint.specs.Pen.{Inked, Even}
+use Rattle.paint.specs.Pen.{Even}
 use Rattle.paint.specs.Fill.{Long, fullAt, filledAt, laidAt, one}
 use Rattle.paint.proofs.Fits.{fit-step}
 use Rattle.paint.proofs.Steps.{set-back, three-back}

@@ -13,7 +13,7 @@ use Rattle.mixer.specs.Mixer.{colorValue}
 use Rattle.raster.specs.declared.Fragment.{Fragment}
 use Rattle.raster.specs.declared.Fragment.the-variants.{Empty, Covered}
 use Rattle.raster.specs.Emitted.{Emit, shown, covered, emits}
-use Rattle.raster.specs.Parts.{parts, from}
+use Rattle.raster.specs.Parts.{from}
 use Rattle.raster.proofs.Parts.{parts-bound, from-more, from-none}
 use Rattle.frame.specs.Frame.{Frame, Fit}
 use Rattle.paint.specs.declared.pen.Pen.{Pen}

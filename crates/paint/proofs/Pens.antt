@@ -15,7 +15,7 @@ use Rattle.mixer.specs.Mixer.{colorValue, mixedBy, mixerOf}
 use Rattle.mixer.specs.Shaded.{shadeUsed}
 use Rattle.mixer.proofs.Flat.{flat-color}
 use Rattle.blender.specs.declared.Mux.{Mux}
-use Rattle.blender.specs.Mux.{muxOf, pick}
+use Rattle.blender.specs.Mux.{muxOf}
 use Rattle.blender.specs.Blend.{sourceOf, ownOf}
 use Rattle.blender.specs.declared.layer.Layer.{Layer}
 use Rattle.blender.specs.Known.{opaqueOf}

@@ -1,5 +1,5 @@
 -- `blender::source` meets its contract: the arm that is taken is the definition's. Assumes nothing.
-use mathlib.Core.Path.{_≡_, sym, ap, _∙_}
+use mathlib.Core.Path.{sym, ap, _∙_}
 use Prim.Native.Nat.{ℕ}
 use Rattle.mode.specs.declared.Rgba.{Rgba}
 use Rattle.blender.specs.Blend.{sourceOf}

@@ -1,6 +1,6 @@
 -- `cell::blended` meets its contract: the first three bytes of `blend`. Assumes nothing.
 use borrow.Author.Needs.{needs}
-use mathlib.Core.Path.{_≡_, ap, _∙_}
+use mathlib.Core.Path.{ap, _∙_}
 use Prim.Native.Nat.{ℕ}
 use Rattle.blender.specs.declared.Bytes.{Bytes}
 use Rattle.blender.specs.Blend.{blendOf}

@@ -1,7 +1,7 @@
 -- `cell::cover` meets its contract: the coverage and the mark are what the callees answer. Assumes nothing.
 use borrow.Author.Needs.{needs}
 use Prim.Native.Nat.{ℕ, _≤_}
-use mathlib.Core.Path.{_≡_, sym, subst, ap, _∙_}
+use mathlib.Core.Path.{_≡_, sym, subst}
 use mathlib.Core.Bool.{true}
 use Rattle.blender.specs.declared.Coverage.{Coverage}
 use Rattle.mode.specs.declared.RenderMode.{RenderMode}

@@ -1,6 +1,6 @@
 -- `cell::memory_of` meets its contract: the three bytes as floats, or zeros. Assumes nothing.
 use borrow.Author.Needs.{needs}
-use lib.Ieee.{ofBits, Float}
+use lib.Ieee.{ofBits}
 use mathlib.Core.Path.{sym}
 use mathlib.Core.Bool.{cond}
 use Rattle.num.specs.Color.{f0}

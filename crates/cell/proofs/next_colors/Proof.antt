@@ -1,7 +1,6 @@
 -- `cell::next_colors` meets its contract: F3 on yes, F4 on no. Assumes nothing.
 use borrow.Author.Needs.{needs}
-use mathlib.Core.Path.{_≡_, sym, ap, _∙_}
-use mathlib.Core.Bool.{cond}
+use mathlib.Core.Path.{ap, _∙_}
 use Rattle.mode.specs.declared.Rgba.{Rgba}
 use Rattle.cell.specs.Rules.{ruleF3}
 use Rattle.cell.proofs.next_colors.Statement.{statement}

@@ -1,7 +1,7 @@
 -- `cell::next_coverage` meets its contract: a known coverage goes through `destination`, an unknown one through `fresh`. Assumes nothing.
 use borrow.Author.Needs.{needs}
 use Prim.Native.Nat.{_≤_}
-use mathlib.Core.Path.{_≡_, sym, ap, subst, _∙_}
+use mathlib.Core.Path.{sym, ap, subst, _∙_}
 use Rattle.blender.specs.declared.Coverage.{Coverage}
 use Rattle.blender.specs.declared.Coverage.the-variants.{Known}
 use Rattle.cell.specs.Rules.{orZero, ruleF5}

@@ -1,6 +1,6 @@
 -- `cell::own_colors` meets its contract: three bytes of the colour that `own_color` answers. Assumes nothing.
 use borrow.Author.Needs.{needs}
-use mathlib.Core.Path.{ap, _∙_}
+use mathlib.Core.Path.{_∙_}
 use Rattle.num.specs.Whole.{byteOf}
 use Rattle.cell.specs.Own.{ownColors}
 use Rattle.cell.proofs.own_colors.Statement.{statement}

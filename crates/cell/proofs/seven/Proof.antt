@@ -1,7 +1,4 @@
 -- `cell::seven` meets its contract: each test in turn. Assumes nothing.
-use mathlib.Core.Path.{sym}
-use mathlib.Core.Bool.{_||_}
-use lib.Dec.{eqb}
 use borrow.Author.Tests.{eq-eqb, ne-eqb}
 use Rattle.cell.specs.Own.{sevenOf}
 use Rattle.cell.proofs.seven.Statement.{statement}

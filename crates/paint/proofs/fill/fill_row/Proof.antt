@@ -2,7 +2,7 @@
 use mathlib.Core.Path.{refl}
 use native.Mathlib.Omega.{arith}
 use Rattle.frame.proofs.Fits.{pixels-le}
-use Rattle.paint.proofs.Fills.{own-filled, own-laid, long}
+use Rattle.paint.proofs.Fills.{own-filled, own-laid}
 use borrow.Author.Needs.{needs}
 use Rattle.paint.proofs.fill.fill_row.Statement.{statement}
 use Rattle.paint.proofs.fill.fill_row.Tie as tie

@@ -1,7 +1,6 @@
 -- `bytes_of` meets its contract: three bytes, or those that are there. Assumes nothing.
 use mathlib.Core.Path.{sym}
 use mathlib.Core.Bool.{cond}
-use Rattle.cell.specs.declared.Colors.{Colors}
 use borrow.Author.Needs.{needs}
 use Rattle.paint.proofs.pen.bytes_of.Statement.{statement}
 use Rattle.paint.proofs.pen.bytes_of.Tie as tie
