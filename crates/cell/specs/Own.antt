@@ -1,5 +1,6 @@
--- Pixels that need less of the rules: one that is opaque, of whose colour the memory has no part, and one with all samples, whose coverage turns on the mode
--- alone. Definitions only; that they are what the rules give is proofs/Own.
+-- Pixels that need less of the rules: one that is opaque, of whose colour the memory has no part; one that is layered, whose colour is a sum with the
+-- memory's; and one with all samples, whose coverage turns on the mode alone. Definitions only, for contracts of inner functions; that they are what the
+-- rules give is proofs/Own.
 use Prim.Native.Nat.{ℕ}
 use mathlib.Core.Path.{_≡_}
 use mathlib.Core.Bool.{Bool, true, cond, not, _&&_, _||_}
