@@ -123,13 +123,13 @@ fn shades_differ(a: Vertex, b: Vertex, c: Vertex) -> bool
 fn not_finite(a: Vertex, b: Vertex, c: Vertex) -> bool
     ensures { λ r. ⌜ r ≡ any (λ v. not (finiteColor v)) a b c ⌝ }
 {
-    if !a.finite() {
+    if !vertex::finite(a) {
         return true;
     }
-    if !b.finite() {
+    if !vertex::finite(b) {
         return true;
     }
-    !c.finite()
+    !vertex::finite(c)
 }
 
 fn differs_from(combiner: Combiner, alpha: f32, v: Vertex) -> bool

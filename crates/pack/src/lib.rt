@@ -206,118 +206,119 @@ fn pack_depth_bits(bits: u32) -> u16
     pack_depth(f32::from_bits(bits))
 }
 
-impl FramebufferEncoding {
-    // A word's bytes as they lie in memory.
-    pub fn encode_u16(self, word: u16) -> Bytes2
-        ensures { λ r. ⌜ r ≡ bytesOf self word ⌝ }
-    {
-        let low = (word % 256) as u8;
-        let high = (word >> 8) as u8;
-        match self {
-            FramebufferEncoding::Native => Bytes2(low, high),
-            FramebufferEncoding::BigEndian => Bytes2(high, low),
-        }
+// A word's bytes as they lie in memory.
+pub fn encode_u16(encoding: FramebufferEncoding, word: u16) -> Bytes2
+    ensures { λ r. ⌜ r ≡ bytesOf encoding word ⌝ }
+{
+    let low = (word % 256) as u8;
+    let high = (word >> 8) as u8;
+    match encoding {
+        FramebufferEncoding::Native => Bytes2(low, high),
+        FramebufferEncoding::BigEndian => Bytes2(high, low),
     }
 }
 
-impl Writer {
-    // Depths, 16-bit RGBA, and 8-bit colour index, intensity and alpha, or intensity.
-    pub fn supported(self) -> bool
-        ensures { λ r. ⌜ r ≡ supportedOf self ⌝ }
-    {
-        let fmt = self.layout.fmt;
-        let siz = self.layout.siz;
-        if self.depth {
-            return true;
-        }
-        if siz == 2 {
-            return fmt == 0;
-        }
-        if siz == 1 {
-            if fmt < 2 {
-                return false;
-            }
-            return fmt <= 4;
-        }
-        false
+// Depths, 16-bit RGBA, and 8-bit colour index, intensity and alpha, or intensity.
+pub fn supported(writer: Writer) -> bool
+    ensures { λ r. ⌜ r ≡ supportedOf writer ⌝ }
+{
+    let fmt = writer.layout.fmt;
+    let siz = writer.layout.siz;
+    if writer.depth {
+        return true;
     }
+    if siz == 2 {
+        return fmt == 0;
+    }
+    if siz == 1 {
+        if fmt < 2 {
+            return false;
+        }
+        return fmt <= 4;
+    }
+    false
+}
 
-    // Half a byte counts as a whole one.
-    pub fn pixel_bytes(self) -> usize
-        requires { ⌜ self .layout .siz ≤ 3 ⌝ }
-        ensures { λ r. ⌜ r ≡ pixelBytesOf (self .layout) ⌝ }
-    {
-        let siz = self.layout.siz as u32;
-        let bits = 4usize << siz;
-        let bytes = bits / 8;
-        if bytes < 1 {
-            return 1;
-        }
-        bytes
+// Half a byte counts as a whole one.
+pub fn pixel_bytes(layout: ImageLayout) -> usize
+    requires { ⌜ layout .siz ≤ 3 ⌝ }
+    ensures { λ r. ⌜ r ≡ pixelBytesOf layout ⌝ }
+{
+    let siz = layout.siz as u32;
+    let bits = 4usize << siz;
+    let bytes = bits / 8;
+    if bytes < 1 {
+        return 1;
     }
+    bytes
+}
 
-    // The pixel's part of a literal word, which holds two halfwords or four bytes, the first pixel's on top.
-    fn encode_literal(self, word: u32, pixel: usize, encoding: FramebufferEncoding) -> Bytes2
-        requires { ⌜ self .layout .siz ≤ 3 ⌝ }
-        ensures { λ r. ⌜ r ≡ literalOf (self .layout) word pixel encoding ⌝ }
-    {
-        if self.pixel_bytes() == 2 {
-            let half = (pixel % 2) as u32;
-            let taken = bits::bits(word, 16 * (1 - half), 16) as u16;
-            return encoding.encode_u16(taken);
-        }
-        let place = (pixel % 4) as u32;
-        let byte = bits::bits(word, 8 * (3 - place), 8) as u8;
-        Bytes2(byte, 0)
+// The pixel's part of a literal word, which holds two halfwords or four bytes, the first pixel's on top.
+fn encode_literal(
+    layout: ImageLayout,
+    word: u32,
+    pixel: usize,
+    encoding: FramebufferEncoding,
+) -> Bytes2
+    requires { ⌜ layout .siz ≤ 3 ⌝ }
+    ensures { λ r. ⌜ r ≡ literalOf layout word pixel encoding ⌝ }
+{
+    if pixel_bytes(layout) == 2 {
+        let half = (pixel % 2) as u32;
+        let taken = bits::bits(word, 16 * (1 - half), 16) as u16;
+        return encode_u16(encoding, taken);
     }
+    let place = (pixel % 4) as u32;
+    let byte = bits::bits(word, 8 * (3 - place), 8) as u8;
+    Bytes2(byte, 0)
+}
 
-    // A byte by the column's parity for one-byte pixels, else the packed word.
-    fn encode_color(
-        self,
-        rgba: Rgba8,
-        coverage: u8,
-        pixel: usize,
-        rgb_dither: u8,
-        encoding: FramebufferEncoding,
-    ) -> Bytes2
-        requires { ⌜ (self .layout .siz ≤ 3) × (0 < self .layout .width) × (coverage ≤ 7) ⌝ }
-        ensures { λ r. ⌜ r ≡ colorOf (self .layout) rgba coverage pixel «rgb_dither» encoding ⌝ }
-    {
-        let width = self.layout.width as usize;
-        let x = pixel % width;
-        let y = pixel / width;
-        if self.pixel_bytes() == 1 {
-            if x & 1 == 0 {
-                return Bytes2(rgba.r, 0);
-            }
-            return Bytes2(rgba.g, 0);
+// A byte by the column's parity for one-byte pixels, else the packed word.
+fn encode_color(
+    layout: ImageLayout,
+    rgba: Rgba8,
+    coverage: u8,
+    pixel: usize,
+    rgb_dither: u8,
+    encoding: FramebufferEncoding,
+) -> Bytes2
+    requires { ⌜ (layout .siz ≤ 3) × (0 < layout .width) × (coverage ≤ 7) ⌝ }
+    ensures { λ r. ⌜ r ≡ colorOf layout rgba coverage pixel «rgb_dither» encoding ⌝ }
+{
+    let width = layout.width as usize;
+    let x = pixel % width;
+    let y = pixel / width;
+    if pixel_bytes(layout) == 1 {
+        if x & 1 == 0 {
+            return Bytes2(rgba.r, 0);
         }
-        let t = threshold(rgb_dither, x, y);
-        encoding.encode_u16(pack_color(rgba, coverage, t))
+        return Bytes2(rgba.g, 0);
     }
+    let t = threshold(rgb_dither, x, y);
+    encode_u16(encoding, pack_color(rgba, coverage, t))
+}
 
-    // The two bytes that the writer puts down for a pixel; a one-byte pixel leaves the second 0.
-    pub fn encode(
-        self,
-        rgba: Rgba8,
-        coverage: u8,
-        pixel: usize,
-        literal: Literal,
-        rgb_dither: u8,
-        encoding: FramebufferEncoding,
-    ) -> Bytes2
-        requires { ⌜ (self .layout .siz ≤ 3) × (0 < self .layout .width) × (coverage ≤ 7) ⌝ }
-        ensures { λ r. ⌜ r ≡ encodeOf self rgba coverage pixel literal «rgb_dither» encoding ⌝ }
-    {
-        if !self.supported() {
-            return Bytes2(0, 0);
-        }
-        if let Literal::Word(word) = literal {
-            return self.encode_literal(word, pixel, encoding);
-        }
-        if self.depth {
-            return encoding.encode_u16(pack_depth_bits(bits_of(rgba)));
-        }
-        self.encode_color(rgba, coverage, pixel, rgb_dither, encoding)
+// The two bytes that the writer puts down for a pixel; a one-byte pixel leaves the second 0.
+pub fn encode(
+    writer: Writer,
+    rgba: Rgba8,
+    coverage: u8,
+    pixel: usize,
+    literal: Literal,
+    rgb_dither: u8,
+    encoding: FramebufferEncoding,
+) -> Bytes2
+    requires { ⌜ (writer .layout .siz ≤ 3) × (0 < writer .layout .width) × (coverage ≤ 7) ⌝ }
+    ensures { λ r. ⌜ r ≡ encodeOf writer rgba coverage pixel literal «rgb_dither» encoding ⌝ }
+{
+    if !supported(writer) {
+        return Bytes2(0, 0);
     }
+    if let Literal::Word(word) = literal {
+        return encode_literal(writer.layout, word, pixel, encoding);
+    }
+    if writer.depth {
+        return encode_u16(encoding, pack_depth_bits(bits_of(rgba)));
+    }
+    encode_color(writer.layout, rgba, coverage, pixel, rgb_dither, encoding)
 }

@@ -193,7 +193,7 @@ pub fn supported(writer: Writer) -> Answer
     ensures { λ r. ⌜ answerMeans r ≡ supportedCall writer ⌝ }
 {
     if siz_ok(writer.layout.siz) {
-        return yes_or_no(writer.supported());
+        return yes_or_no(pack::supported(writer));
     }
     Answer::Refused
 }
@@ -203,7 +203,7 @@ pub fn pixel_bytes(writer: Writer) -> PixelBytes
     ensures { λ r. ⌜ pixelBytesMeans r ≡ pixelBytesCall writer ⌝ }
 {
     if siz_ok(writer.layout.siz) {
-        return PixelBytes::Bytes(writer.pixel_bytes());
+        return PixelBytes::Bytes(pack::pixel_bytes(writer.layout));
     }
     PixelBytes::Refused
 }
@@ -221,7 +221,7 @@ pub fn encode(
     ensures { λ r. ⌜ encodeMeans r ≡ encodeCall writer rgba coverage pixel literal «rgb_dither» encoding ⌝ }
 {
     if writer_ok(writer, coverage, pixel) {
-        let bytes = writer.encode(rgba, coverage, pixel, literal, rgb_dither, encoding);
+        let bytes = pack::encode(writer, rgba, coverage, pixel, literal, rgb_dither, encoding);
         return Encoded::Bytes(bytes.0, bytes.1);
     }
     Encoded::Refused

@@ -61,22 +61,20 @@ fn least(a: u32, b: u32) -> u32
     b
 }
 
-impl Scissor {
-    // The pixels of a frame inside the scissor. Where it starts past the frame's end, the area ends where it starts.
-    pub fn area(self, width: u32, height: u32) -> Area
-        requires { ⌜ Sized self width height ⌝ }
-        ensures { λ r. ⌜ r ≡ areaOf self width height ⌝ }
-    {
-        let right = least(width, self.left + self.width);
-        let bottom = least(height, self.top + self.height);
-        let left = least(self.left, right);
-        let top = least(self.top, bottom);
-        Area {
-            left,
-            top,
-            right,
-            bottom,
-        }
+// The pixels of a frame inside the scissor. Where it starts past the frame's end, the area ends where it starts.
+pub fn scissor_area(scissor: Scissor, width: u32, height: u32) -> Area
+    requires { ⌜ Sized scissor width height ⌝ }
+    ensures { λ r. ⌜ r ≡ areaOf scissor width height ⌝ }
+{
+    let right = least(width, scissor.left + scissor.width);
+    let bottom = least(height, scissor.top + scissor.height);
+    let left = least(scissor.left, right);
+    let top = least(scissor.top, bottom);
+    Area {
+        left,
+        top,
+        right,
+        bottom,
     }
 }
 

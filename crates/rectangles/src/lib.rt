@@ -233,7 +233,7 @@ pub fn draw_rectangle(
 {
     let combiner = pen.combiner;
     let color = combiner.color(combiner::full_shade());
-    let area = scissor.area(width, height);
+    let area = raster::scissor_area(scissor, width, height);
     let columns = sides.columns(area.left, area.right);
     let rows = sides.rows(area.top, area.bottom);
     let start = columns.start;

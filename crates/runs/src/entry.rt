@@ -60,7 +60,7 @@ fn read_halfword(
     let rgba = Rgba8 { r, g, b, a: 0 };
     let threshold = pack::word_threshold(rgb_dither, place.x, place.y);
     let word = pack::pack_color(rgba, coverage, threshold);
-    encoding.encode_u16(word)
+    pack::encode_u16(encoding, word)
 }
 
 // A pixel of 8 bits: red in even columns, green in odd ones.

@@ -65,7 +65,7 @@ fn read_there(
     ensures { λ r. ⌜ Wrote (λ (i : ℕ). readAnswer (readAt (readArgs first fmt siz «rgb_dither» encoding) i) width height (frameOf (now (colors .entry)) (now (coverages .entry)) (now (marks .entry)))) 0 count (length (now (numbers .entry))) (entriesOf (now (words .entry)) (now (numbers .entry))) (entriesOf (now (words .exit)) (now (numbers .exit))) ⌝ ∗ ⌜ r ≡ countOf (answersFrom (λ (i : ℕ). readAnswer (readAt (readArgs first fmt siz «rgb_dither» encoding) i) width height (frameOf (now (colors .entry)) (now (coverages .entry)) (now (marks .entry)))) 0 count) ⌝ }
 {
     let writer = words::writer(width, fmt, siz);
-    if !writer.supported() {
+    if !pack::supported(writer) {
         entry::fill(words, numbers, 0, count, 9);
         return 0;
     }

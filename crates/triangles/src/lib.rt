@@ -123,7 +123,7 @@ fn draw_triangle(
         return 0;
     }
     let t = edges::setup(corners);
-    let area = scissor.area(width, height);
+    let area = raster::scissor_area(scissor, width, height);
     let rows = edges::rows(t, area.top, area.bottom);
     draw_rows(
         colors,

@@ -32,22 +32,22 @@ impl Vertex {
     {
         contains(-1024.0, 1023.75, self.x) && contains(-2048.0, 2047.75, self.y)
     }
+}
 
-    // Whether no colour is a NaN or an infinity.
-    pub fn finite(self) -> bool
-        ensures { λ r. ⌜ r ≡ finiteColor self ⌝ }
-    {
-        if !num::is_finite(self.r) {
-            return false;
-        }
-        if !num::is_finite(self.g) {
-            return false;
-        }
-        if !num::is_finite(self.b) {
-            return false;
-        }
-        num::is_finite(self.a)
+// Whether no colour is a NaN or an infinity.
+pub fn finite(v: Vertex) -> bool
+    ensures { λ r. ⌜ r ≡ finiteColor v ⌝ }
+{
+    if !num::is_finite(v.r) {
+        return false;
     }
+    if !num::is_finite(v.g) {
+        return false;
+    }
+    if !num::is_finite(v.b) {
+        return false;
+    }
+    num::is_finite(v.a)
 }
 
 // Twice the area of a, b and the point. Its sign says on which side of the line from a to b the point is.

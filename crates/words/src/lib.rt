@@ -76,7 +76,15 @@ fn encoded(
     let b = colors[blue_at];
     let coverage = known_coverage(coverages, marks, pixel);
     let rgba = Rgba8 { r, g, b, a: 0 };
-    writer.encode(rgba, coverage, pixel, Literal::Absent, rgb_dither, encoding)
+    pack::encode(
+        writer,
+        rgba,
+        coverage,
+        pixel,
+        Literal::Absent,
+        rgb_dither,
+        encoding,
+    )
 }
 
 // The word of a pixel, where its colour, and its coverage for 16 bits, is known: numbers 1 to 3 and 8 to 10.
@@ -102,7 +110,7 @@ pub fn read_word(
         return Word::Refused(8);
     }
     let writer = writer(width, fmt, siz);
-    if !writer.supported() {
+    if !pack::supported(writer) {
         return Word::Refused(9);
     }
     let mark = marks[pixel];

@@ -15,23 +15,23 @@ full-shade-requires c κs = search needs
 color-requires : tie.Need-color-requires
 color-requires c κs = search needs
 
-area-requires : tie.Need-area-requires
-area-requires c κs = search needs
+scissor-area-requires : tie.Need-scissor-area-requires
+scissor-area-requires c κs = search needs
 
 columns-requires : tie.Need-columns-requires
-columns-requires c κs = let b = bounded _ _ _ (c .area .ensures) in (b .across, omega (arith, b .right-in, c .before .before .before .before .before .before .before .pre .1 .wide))
+columns-requires c κs = let b = bounded _ _ _ (c .scissor-area .ensures) in (b .across, omega (arith, b .right-in, c .before .before .before .before .before .before .before .pre .1 .wide))
 
 rows-requires : tie.Need-rows-requires
-rows-requires c κs = let b = bounded _ _ _ (c .before .area .ensures) in (b .down, omega (arith, b .bottom-in, c .before .before .before .before .before .before .before .before .pre .1 .high))
+rows-requires c κs = let b = bounded _ _ _ (c .before .scissor-area .ensures) in (b .down, omega (arith, b .bottom-in, c .before .before .before .before .before .before .before .before .pre .1 .high))
 
 full-columns-requires : tie.Need-full-columns-requires
 full-columns-requires c κs =
-    let b = bounded _ _ _ (c .before .before .area .ensures) in
+    let b = bounded _ _ _ (c .before .before .scissor-area .ensures) in
     (c .before .columns .ensures .order, omega (arith, c .before .columns .ensures .to, b .right-in, c .before .before .before .before .before .before .before .before .before .pre .1 .wide))
 
 draw-rows-requires : tie.Need-draw-rows-requires
 draw-rows-requires c κs =
-    let b = bounded _ _ _ (c .before .before .before .before .before .before .area .ensures) in
+    let b = bounded _ _ _ (c .before .before .before .before .before .before .scissor-area .ensures) in
     let s = c .before .before .before .before .before .before .before .before .before .before .before .before .before in (
       (
         omega (arith, c .before .before .before .before .before .columns .ensures .to, b .right-in),
@@ -51,7 +51,7 @@ same-length-3 c = search needs
 
 returns : tie.Need-returns
 returns c =
-    rectangle-drawn _ _ _ _ _ _ (c .before .before .before .before .before .before .before .before .before .before .before .before .before .before .before .full-shade .ensures) (c .before .before .before .before .before .before .before .before .before .before .before .before .before .before .color .ensures) (c .before .before .before .before .before .before .before .before .before .before .before .before .before .area .ensures) (c .before .before .before .before .before .before .before .before .before .before .before .before .columns .ensures) (c .before .before .before .before .before .before .before .before .before .before .before .rows .ensures)
+    rectangle-drawn _ _ _ _ _ _ (c .before .before .before .before .before .before .before .before .before .before .before .before .before .before .before .full-shade .ensures) (c .before .before .before .before .before .before .before .before .before .before .before .before .before .before .color .ensures) (c .before .before .before .before .before .before .before .before .before .before .before .before .before .scissor-area .ensures) (c .before .before .before .before .before .before .before .before .before .before .before .before .columns .ensures) (c .before .before .before .before .before .before .before .before .before .before .before .rows .ensures)
     (c .before .before .before .before .before .before .draw-rows .ensures)
 
 pub draw-rectangle-spec : {M : Type 1} → statement M
@@ -60,7 +60,7 @@ draw-rectangle-spec =
     (tie.spec
     full-shade-requires
     color-requires
-    area-requires
+    scissor-area-requires
     columns-requires
     rows-requires
     full-columns-requires

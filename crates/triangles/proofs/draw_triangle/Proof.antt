@@ -34,15 +34,15 @@ returns-2 c =
 setup-requires : tie.Need-setup-requires
 setup-requires c κs = near _ _ _ (c .before .before .before .sort .ensures) (c .before .before .corners .ensures) (c .before .before .before .before .before .before .before .before .before .pre .0 .0)
 
-area-requires : tie.Need-area-requires
-area-requires c κs = search needs
+scissor-area-requires : tie.Need-scissor-area-requires
+scissor-area-requires c κs = search needs
 
 rows-requires : tie.Need-rows-requires
-rows-requires c κs = bounded _ _ _ (c .area .ensures) .down
+rows-requires c κs = bounded _ _ _ (c .scissor-area .ensures) .down
 
 draw-rows-requires : tie.Need-draw-rows-requires
 draw-rows-requires c κs =
-    let b = bounded _ _ _ (c .before .before .before .before .area .ensures) in (
+    let b = bounded _ _ _ (c .before .before .before .before .scissor-area .ensures) in (
       (b .across, b .right-in, c .before .before .before .before .before .before .before .before .before .before .before .before .before .before .before .pre .0 .1),
       (
         tame-as _ _ _ (c .before .before .before .before .before .before .before .before .before .sort .ensures) (c .before .before .before .before .before .before .before .before .corners .ensures) (c .before .before .before .before .before .setup .ensures) (c .before .before .before .before .before .before .before .before .before .before .before .before .before .before .before .pre .0 .0),
@@ -62,7 +62,7 @@ same-length-3 c = search needs
 returns-3 : tie.Need-returns-3
 returns-3 c =
     triangle-drawn _ _ _ _ _ _ _ _ _ (c .before .before .before .before .before .before .before .before .before .before .before .before .before .before .before .before .sort .ensures) (c .before .before .before .before .before .before .before .before .before .before .before .before .before .before .before .corners .ensures) (c .before .before .before .before .before .before .before .before .before .before .before .before .before .before .quarter-area .ensures)
-    (sym (c .before .before .before .before .before .before .before .before .before .before .before .before .before .before .before .before .before .before .culled .ensures) ∙ c .before .before .before .before .before .before .before .before .before .before .before .before .before .before .before .before .before .if1 .left) (λ z. c .before .before .before .before .before .before .before .before .before .before .before .before .before .if2 .left (ap (ofZ w64) z)) (c .before .before .before .before .before .before .before .before .before .before .before .before .setup .ensures) (c .before .before .before .before .before .before .before .before .before .before .before .area .ensures) (c .before .before .before .before .before .before .before .before .before .before .rows .ensures)
+    (sym (c .before .before .before .before .before .before .before .before .before .before .before .before .before .before .before .before .before .before .culled .ensures) ∙ c .before .before .before .before .before .before .before .before .before .before .before .before .before .before .before .before .before .if1 .left) (λ z. c .before .before .before .before .before .before .before .before .before .before .before .before .before .if2 .left (ap (ofZ w64) z)) (c .before .before .before .before .before .before .before .before .before .before .before .before .setup .ensures) (c .before .before .before .before .before .before .before .before .before .before .before .scissor-area .ensures) (c .before .before .before .before .before .before .before .before .before .before .rows .ensures)
     (c .before .before .before .before .before .before .draw-rows .ensures)
 
 pub draw-triangle-spec : {M : Type 1} → statement M
@@ -76,7 +76,7 @@ draw-triangle-spec =
     quarter-area-requires
     returns-2
     setup-requires
-    area-requires
+    scissor-area-requires
     rows-requires
     draw-rows-requires
     same-length

@@ -1,4 +1,4 @@
--- `pack::Writer::encode_literal` meets its contract: the size's test picks the part, and `bits` takes it out. Assumes nothing.
+-- `pack::encode_literal` meets its contract: the size's test picks the part, and `bits` takes it out. Assumes nothing.
 use mathlib.Core.Path.{sym, ap, _∙_}
 use Prim.Native.Nat.{ℕ}
 use native.Mathlib.Omega.{arith}
@@ -8,8 +8,8 @@ use Rattle.pack.specs.declared.Bytes2.{Bytes2}
 use Rattle.pack.proofs.Encoded.{literal-by}
 use borrow.Author.Tests.{eq-eqb, ne-eqb}
 use borrow.Author.Needs.{needs}
-use Rattle.pack.proofs.Writer.encode_literal.Statement.{statement}
-use Rattle.pack.proofs.Writer.encode_literal.Tie as tie
+use Rattle.pack.proofs.encode_literal.Statement.{statement}
+use Rattle.pack.proofs.encode_literal.Tie as tie
 
 pixel-bytes-requires : tie.Need-pixel-bytes-requires
 pixel-bytes-requires c κs = search needs
@@ -38,7 +38,7 @@ returns c =
     let s = c .before .before .before .before .args in
     c .encode-u16 .ensures
     ∙ ap (bytesOf (s .encoding)) (c .before .bits .ensures)
-    ∙ sym (literal-by (s .self .layout) (s .word) (s .pixel) (s .encoding) _ (eq-eqb _ 2 (sym (c .before .before .before .pixel-bytes .ensures) ∙ c .before .before .if1 .taken)))
+    ∙ sym (literal-by (s .layout) (s .word) (s .pixel) (s .encoding) _ (eq-eqb _ 2 (sym (c .before .before .before .pixel-bytes .ensures) ∙ c .before .before .if1 .taken)))
 
 cast-place : tie.Need-cast-place
 cast-place c = search needs
@@ -60,7 +60,7 @@ returns-2 : tie.Need-returns-2
 returns-2 c =
     let s = c .before .before .before .args in
     ap {B = Bytes2} (λ (n : ℕ). (n, 0)) (c .bits2 .ensures)
-    ∙ sym (literal-by (s .self .layout) (s .word) (s .pixel) (s .encoding) _ (ne-eqb _ 2 (λ e. c .before .if1 .left (c .before .before .pixel-bytes .ensures ∙ e))))
+    ∙ sym (literal-by (s .layout) (s .word) (s .pixel) (s .encoding) _ (ne-eqb _ 2 (λ e. c .before .if1 .left (c .before .before .pixel-bytes .ensures ∙ e))))
 
 pub encode-literal-spec : {M : Type 1} → statement M
 encode-literal-spec =

@@ -1,4 +1,4 @@
--- `pack::Writer::encode` meets its contract: the tests pick the case, and a callee answers it. Assumes nothing.
+-- `pack::encode` meets its contract: the tests pick the case, and a callee answers it. Assumes nothing.
 use mathlib.Core.Path.{_≡_, sym, ap, _∙_}
 use mathlib.Core.Bool.{Bool, true, false, cond}
 use Prim.Native.Nat.{ℕ}
@@ -9,8 +9,8 @@ use Rattle.pack.specs.Writer.{bytesOf, pixelDepthOf, colorOf, writtenOf,
 use Rattle.pack.specs.declared.Literal.{Literal}
 use Rattle.pack.proofs.Encoded.{encode-by, absent-by}
 use borrow.Author.Needs.{needs}
-use Rattle.pack.proofs.Writer.encode.Statement.{statement}
-use Rattle.pack.proofs.Writer.encode.Tie as tie
+use Rattle.pack.proofs.encode.Statement.{statement}
+use Rattle.pack.proofs.encode.Tie as tie
 
 supported-requires : tie.Need-supported-requires
 supported-requires c κs = search needs
@@ -39,15 +39,15 @@ encode-color-requires c κs = search needs
 returns : tie.Need-returns
 returns c =
     let s = c .before .before .args in
-    sym (encode-by (s .self) (s .rgba) (s .coverage) (s .pixel) (s .rgb-dither) (s .encoding) (s .literal) false (sym (c .before .supported .ensures) ∙ not-true _ (c .if1 .taken)))
+    sym (encode-by (s .writer) (s .rgba) (s .coverage) (s .pixel) (s .rgb-dither) (s .encoding) (s .literal) false (sym (c .before .supported .ensures) ∙ not-true _ (c .if1 .taken)))
 
 -- past the first test: what is written, given what the literal is
 supported : (c : tie.Else1) (l : Literal) → (let s = c .before .before .args in s .literal ≡ l
-    → writtenOf (s .self) (s .rgba) (s .coverage) (s .pixel) l (s .rgb-dither) (s .encoding) ≡ encodeOf (s .self) (s .rgba) (s .coverage) (s .pixel) (s .literal) (s .rgb-dither) (s .encoding))
+    → writtenOf (s .writer) (s .rgba) (s .coverage) (s .pixel) l (s .rgb-dither) (s .encoding) ≡ encodeOf (s .writer) (s .rgba) (s .coverage) (s .pixel) (s .literal) (s .rgb-dither) (s .encoding))
 supported c l h =
     let s = c .before .before .args in
-    ap (λ (x : Literal). writtenOf (s .self) (s .rgba) (s .coverage) (s .pixel) x (s .rgb-dither) (s .encoding)) (sym h)
-    ∙ sym (encode-by (s .self) (s .rgba) (s .coverage) (s .pixel) (s .rgb-dither) (s .encoding) (s .literal) true (sym (c .before .supported .ensures) ∙ not-false _ (c .if1 .left)))
+    ap (λ (x : Literal). writtenOf (s .writer) (s .rgba) (s .coverage) (s .pixel) x (s .rgb-dither) (s .encoding)) (sym h)
+    ∙ sym (encode-by (s .writer) (s .rgba) (s .coverage) (s .pixel) (s .rgb-dither) (s .encoding) (s .literal) true (sym (c .before .supported .ensures) ∙ not-false _ (c .if1 .left)))
 
 returns-2 : tie.Need-returns-2
 unfolding writtenOf
@@ -56,12 +56,12 @@ returns-2 c =
     c .encode-literal .ensures ∙ supported (known .before .before) _ (known .literal .given .1)
 
 -- with no literal: a depth or a colour, as the writer's flag says
-plain : (c : tie.After-enum-told) (b : Bool) → (let s = c .before .before .before .before .args in s .self .depth ≡ b
-    → cond b (bytesOf (s .encoding) (pixelDepthOf (s .rgba))) (colorOf (s .self .layout) (s .rgba) (s .coverage) (s .pixel) (s .rgb-dither) (s .encoding))
-    ≡ encodeOf (s .self) (s .rgba) (s .coverage) (s .pixel) (s .literal) (s .rgb-dither) (s .encoding))
+plain : (c : tie.After-enum-told) (b : Bool) → (let s = c .before .before .before .before .args in s .writer .depth ≡ b
+    → cond b (bytesOf (s .encoding) (pixelDepthOf (s .rgba))) (colorOf (s .writer .layout) (s .rgba) (s .coverage) (s .pixel) (s .rgb-dither) (s .encoding))
+    ≡ encodeOf (s .writer) (s .rgba) (s .coverage) (s .pixel) (s .literal) (s .rgb-dither) (s .encoding))
 plain c b h =
     let s = c .before .before .before .before .args in
-    sym (absent-by (s .self) (s .rgba) (s .coverage) (s .pixel) (s .rgb-dither) (s .encoding) b h) ∙ supported (c .before .before) _ (c .enum-told .given .1)
+    sym (absent-by (s .writer) (s .rgba) (s .coverage) (s .pixel) (s .rgb-dither) (s .encoding) b h) ∙ supported (c .before .before) _ (c .enum-told .given .1)
 
 returns-3 : tie.Need-returns-3
 returns-3 c =

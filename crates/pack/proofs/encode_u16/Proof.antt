@@ -1,10 +1,10 @@
--- `pack::FramebufferEncoding::encode_u16` meets its contract. Assumes nothing.
+-- `pack::encode_u16` meets its contract. Assumes nothing.
 use mathlib.Core.Path.{sym, ap}
 use borrow.Author.Needs.{needs}
 use Rattle.pack.specs.Writer.{bytesOf}
 use Rattle.pack.specs.declared.FramebufferEncoding.{FramebufferEncoding}
-use Rattle.pack.proofs.FramebufferEncoding.encode_u16.Statement.{statement}
-use Rattle.pack.proofs.FramebufferEncoding.encode_u16.Tie as tie
+use Rattle.pack.proofs.encode_u16.Statement.{statement}
+use Rattle.pack.proofs.encode_u16.Tie as tie
 
 cast-low : tie.Need-cast-low
 cast-low c = search needs

@@ -1,10 +1,10 @@
--- `Scissor::area` meets its contract, field by field. Assumes nothing.
+-- `scissor_area` meets its contract, field by field. Assumes nothing.
 use mathlib.Core.Path.{ap, _∙_}
 use Prim.Native.Nat.{min}
 use Rattle.raster.specs.Area.{areaOf}
 use borrow.Author.Needs.{needs}
-use Rattle.raster.proofs.Scissor.area.Statement.{statement}
-use Rattle.raster.proofs.Scissor.area.Tie as tie
+use Rattle.raster.proofs.scissor_area.Statement.{statement}
+use Rattle.raster.proofs.scissor_area.Tie as tie
 
 add-least : tie.Need-add-least
 add-least c = search needs
@@ -27,15 +27,15 @@ least-requires-4 c κs = search needs
 returns : tie.Need-returns
 unfolding areaOf
 returns c =
-    let s = c .before .before .before .before .before .before .args .self in
+    let s = c .before .before .before .before .before .before .args .scissor in
     let right = c .before .before .before .before .least .ensures in
     let bottom = c .before .before .least2 .ensures in
     let left = c .before .least3 .ensures ∙ ap (min (s .left)) right in
     let top = c .least4 .ensures ∙ ap (min (s .top)) bottom in
     λ i. record { left = left i; top = top i; right = right i; bottom = bottom i }
 
-pub area-spec : {M : Type 1} → statement M
-area-spec =
+pub scissor-area-spec : {M : Type 1} → statement M
+scissor-area-spec =
     tie.close
     (tie.spec
     add-least

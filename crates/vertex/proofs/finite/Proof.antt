@@ -1,20 +1,20 @@
--- `Vertex::finite` meets its contract: the first colour that is not finite decides, and else the last.
+-- `finite` meets its contract: the first colour that is not finite decides, and else the last.
 use mathlib.Core.Path.{_≡_, sym, _∙_}
 use mathlib.Core.Bool.{true}
 use borrow.Author.Needs.{needs}
 use borrow.Author.Tests.{not-true, not-false}
 use Rattle.num.specs.Color.{isFinite}
-use Rattle.vertex.proofs.Vertex.finite.Statement.{statement}
-use Rattle.vertex.proofs.Vertex.finite.Tie as tie
+use Rattle.vertex.proofs.finite.Statement.{statement}
+use Rattle.vertex.proofs.finite.Tie as tie
 
 -- what is known once a colour's test is passed
-red : (c : tie.Else1) → isFinite (c .before .before .args .self .r) ≡ true
+red : (c : tie.Else1) → isFinite (c .before .before .args .v .r) ≡ true
 red c = sym (c .before .is-finite .ensures) ∙ not-false (c .before .is-finite .result) (c .if1 .left)
 
-green : (c : tie.Else2) → isFinite (c .before .before .before .before .args .self .g) ≡ true
+green : (c : tie.Else2) → isFinite (c .before .before .before .before .args .v .g) ≡ true
 green c = sym (c .before .is-finite2 .ensures) ∙ not-false (c .before .is-finite2 .result) (c .if2 .left)
 
-blue : (c : tie.Else3) → isFinite (c .before .before .before .before .before .before .args .self .b) ≡ true
+blue : (c : tie.Else3) → isFinite (c .before .before .before .before .before .before .args .v .b) ≡ true
 blue c = sym (c .before .is-finite3 .ensures) ∙ not-false (c .before .is-finite3 .result) (c .if3 .left)
 
 is-finite-requires : tie.Need-is-finite-requires

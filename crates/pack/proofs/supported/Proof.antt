@@ -1,10 +1,10 @@
--- `pack::Writer::supported` meets its contract: each answer by the tests that led to it. Assumes nothing.
+-- `pack::supported` meets its contract: each answer by the tests that led to it. Assumes nothing.
 use mathlib.Core.Bool.{or-false}
 use native.Mathlib.Omega.{arith}
 use borrow.Author.Tests.{ne-eqb, le-leb, lt-leb}
 use Rattle.pack.specs.Writer.{supportedOf, colorSupported}
-use Rattle.pack.proofs.Writer.supported.Statement.{statement}
-use Rattle.pack.proofs.Writer.supported.Tie as tie
+use Rattle.pack.proofs.supported.Statement.{statement}
+use Rattle.pack.proofs.supported.Tie as tie
 
 returns : tie.Need-returns
 unfolding supportedOf
@@ -17,19 +17,19 @@ returns-2 c = simp (c .before .if1 .left, c .if2 .taken, or-false)
 returns-3 : tie.Need-returns-3
 unfolding supportedOf colorSupported
 returns-3 c =
-    let s = c .before .before .before .before .args .self .layout in
+    let s = c .before .before .before .before .args .writer .layout in
     simp (c .before .before .before .if1 .left, c .before .if3 .taken, lt-leb 2 (s .fmt) (omega arith))
 
 returns-4 : tie.Need-returns-4
 unfolding supportedOf colorSupported
 returns-4 c =
-    let s = c .before .before .before .before .args .self .layout in
+    let s = c .before .before .before .before .args .writer .layout in
     simp (c .before .before .before .if1 .left, c .before .if3 .taken, le-leb 2 (s .fmt) (omega arith))
 
 returns-5 : tie.Need-returns-5
 unfolding supportedOf colorSupported
 returns-5 c =
-    let s = c .before .before .before .args .self .layout in
+    let s = c .before .before .before .args .writer .layout in
     simp (c .before .before .if1 .left, ne-eqb (s .siz) 2 (c .before .if2 .left), ne-eqb (s .siz) 1 (c .if3 .left))
 
 pub supported-spec : {M : Type 1} → statement M

@@ -1,4 +1,4 @@
--- `pack::Writer::encode_color` meets its contract: the size's test picks a byte by the column, or the packed word. Assumes nothing.
+-- `pack::encode_color` meets its contract: the size's test picks a byte by the column, or the packed word. Assumes nothing.
 use mathlib.Core.Path.{_≡_, sym, ap, _∙_}
 use mathlib.Core.Bool.{Bool, cond}
 use Prim.Native.Nat.{ℕ, _%_}
@@ -10,8 +10,8 @@ use Rattle.pack.specs.Writer.{bytesOf, colorOf}
 use Rattle.pack.specs.declared.Bytes2.{Bytes2}
 use Rattle.pack.proofs.Encoded.{color-by}
 use borrow.Author.Needs.{needs}
-use Rattle.pack.proofs.Writer.encode_color.Statement.{statement}
-use Rattle.pack.proofs.Writer.encode_color.Tie as tie
+use Rattle.pack.proofs.encode_color.Statement.{statement}
+use Rattle.pack.proofs.encode_color.Tie as tie
 
 cast-width : tie.Need-cast-width
 cast-width c = search needs
@@ -27,14 +27,14 @@ pixel-bytes-requires c κs = search needs
 
 -- one byte, by what is known of the column
 abbrev column : tie.Then1 → ℕ
-column c = let s = c .before .before .before .args in s .pixel % s .self .layout .width
+column c = let s = c .before .before .before .args in s .pixel % s .layout .width
 
 one-byte : (c : tie.Then1) (b : Bool) → eqb (column c % 2) 0 ≡ b
-    → (let s = c .before .before .before .args in _≡_ {A = Bytes2} (cond b (s .rgba .r) (s .rgba .g), 0) (colorOf (s .self .layout) (s .rgba) (s .coverage) (s .pixel) (s .rgb-dither) (s .encoding)))
+    → (let s = c .before .before .before .args in _≡_ {A = Bytes2} (cond b (s .rgba .r) (s .rgba .g), 0) (colorOf (s .layout) (s .rgba) (s .coverage) (s .pixel) (s .rgb-dither) (s .encoding)))
 one-byte c b h =
     let s = c .before .before .before .args in
     ap {B = Bytes2} (λ (x : Bool). (cond x (s .rgba .r) (s .rgba .g), 0)) (sym h)
-    ∙ sym (color-by (s .self .layout) (s .rgba) (s .coverage) (s .pixel) (s .rgb-dither) (s .encoding) _ (eq-eqb _ 1 (sym (c .before .pixel-bytes .ensures) ∙ c .if1 .taken)))
+    ∙ sym (color-by (s .layout) (s .rgba) (s .coverage) (s .pixel) (s .rgb-dither) (s .encoding) _ (eq-eqb _ 1 (sym (c .before .pixel-bytes .ensures) ∙ c .if1 .taken)))
 
 returns : tie.Need-returns
 returns c = one-byte (c .before) _ (eq-eqb _ 0 (sym (and-mask (column (c .before)) 1) ∙ c .if2 .taken))
@@ -57,7 +57,7 @@ returns-3 c =
     let s = at .before .before .before .args in
     c .encode-u16 .ensures
     ∙ ap (bytesOf (s .encoding)) (c .before .pack-color .ensures ∙ ap (packColorOf (s .rgba) (s .coverage)) (c .before .before .threshold .ensures))
-    ∙ sym (color-by (s .self .layout) (s .rgba) (s .coverage) (s .pixel) (s .rgb-dither) (s .encoding) _ (ne-eqb _ 1 (λ e. at .if1 .left (at .before .pixel-bytes .ensures ∙ e))))
+    ∙ sym (color-by (s .layout) (s .rgba) (s .coverage) (s .pixel) (s .rgb-dither) (s .encoding) _ (ne-eqb _ 1 (λ e. at .if1 .left (at .before .pixel-bytes .ensures ∙ e))))
 
 pub encode-color-spec : {M : Type 1} → statement M
 encode-color-spec =
