@@ -313,7 +313,9 @@ static void combiner_color(void) {
 static void strict_color(void) {
     wb_combiner k = combiner();
     answers();
-    same_answer(wb_strict_color(k));
+    wb_strict_answer got = wb_strict_color(k);
+    same_word(got.some);
+    same_word(got.word);
 }
 
 static void destination(void) {

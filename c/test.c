@@ -183,6 +183,13 @@ static void numbers(void) {
 
 /* ---- the combiner */
 
+#define CHECK_STRICT(call, expected_some, expected_word) \
+    do { \
+        wb_strict_answer answer_ = (call); \
+        CHECK(answer_.some, expected_some); \
+        CHECK(answer_.word, expected_word); \
+    } while (0)
+
 static void combiner(void) {
     /* Primitive by itself, and the uniform's constants */
     wb_uniform u = only_words(INDEX_PRIMITIVE, INDEX_ONE);
@@ -237,12 +244,12 @@ static void combiner(void) {
     CHECK(wb_combiner_new(u, m).some, true);
 
     /* white, one channel, and a constant that is neither empty nor full */
-    CHECK_ANSWER(wb_strict_color(only(WB_COLOR_ONE, WB_ALPHA_ONE)), 0, 0xfffe);
+    CHECK_STRICT(wb_strict_color(only(WB_COLOR_ONE, WB_ALPHA_ONE)), true, 0xfffe);
     k = only(WB_COLOR_PRIMITIVE, WB_ALPHA_ONE);
     k.prim = rgba(0.0f, 1.0f, 0.0f, 1.0f);
-    CHECK_ANSWER(wb_strict_color(k), 0, 0x07c0);
+    CHECK_STRICT(wb_strict_color(k), true, 0x07c0);
     k.prim.r = 0.5f;
-    CHECK_ANSWER(wb_strict_color(k), WB_NOTHING, 0);
+    CHECK_STRICT(wb_strict_color(k), false, 0);
 }
 
 /* ---- the blender */
@@ -354,9 +361,14 @@ static void refused_calls(void) {
     CHECK_ANSWER(wb_blend(m, k, white, white, 1.0f, 8, 8), WB_REFUSED, 0);
     CHECK_ANSWER(wb_pack_color(0xffffffff, 8, 0), WB_REFUSED, 0);
     CHECK_ANSWER(wb_supported(0, 4, 320, true), WB_REFUSED, 0);
-    CHECK_ANSWER(wb_supported(0, 2, 0, false), 0, 1); /* these two ask about a format, and look at no width (docs/DECISIONS.md) */
+    CHECK_ANSWER(wb_supported(0, 2, 0, false), WB_REFUSED, 0); /* a width counts, though the answer does not turn on it */
+    CHECK_ANSWER(wb_supported(0, 2, 1, false), 0, 1);
+    CHECK_ANSWER(wb_supported(0, 2, 1024, false), 0, 1);
+    CHECK_ANSWER(wb_supported(0, 2, 1025, true), WB_REFUSED, 0);
     CHECK_ANSWER(wb_pixel_bytes(0, 4, 320, false), WB_REFUSED, 0);
-    CHECK_ANSWER(wb_pixel_bytes(0, 2, 1025, false), 0, 2);
+    CHECK_ANSWER(wb_pixel_bytes(0, 2, 0, false), WB_REFUSED, 0);
+    CHECK_ANSWER(wb_pixel_bytes(0, 2, 1024, false), 0, 2);
+    CHECK_ANSWER(wb_pixel_bytes(0, 2, 1025, false), WB_REFUSED, 0);
     CHECK_ANSWER(wb_encode(0, 2, 0, false, 0, 0, 0, false, 0, 0, true), WB_REFUSED, 0);
     CHECK_ANSWER(wb_encode(0, 2, 1025, false, 0, 0, 0, false, 0, 0, true), WB_REFUSED, 0);
     CHECK_ANSWER(wb_encode(0, 4, 320, false, 0, 0, 0, false, 0, 0, true), WB_REFUSED, 0);

@@ -152,6 +152,12 @@ typedef struct {
     wb_rgba rgba;
 } wb_color_answer;
 
+/* A word, if there is one, else 0. */
+typedef struct {
+    bool some;
+    uint16_t word;
+} wb_strict_answer;
+
 /* A combiner, if there is one, else zeros. */
 typedef struct {
     bool some;
@@ -176,9 +182,6 @@ typedef struct {
 /* The number of a single-pixel call that is turned away for its arguments: a count outside 1 to 8, a coverage above 7, a width outside 1 to 1024, a siz
  * above 3 or a pixel above 1,048,575, as far as the call takes them. */
 #define WB_REFUSED 11u
-
-/* The number of wb_strict_color where there is no word. */
-#define WB_NOTHING 1u
 
 /* ---- what a slot of a combine word names: an enum wb_color_in or wb_alpha_in. Bits above the slot's width are dropped. */
 uint32_t wb_color_a(uint32_t index);
@@ -215,8 +218,8 @@ bool wb_le_total(float a, float b);
 wb_combiner_answer wb_combiner_new(wb_uniform uniform, wb_mode mode);
 wb_color_answer wb_combiner_color(wb_combiner combiner, wb_rgba shade);
 
-/* The word of a combiner that gives one constant colour, each channel of it empty or full, or WB_NOTHING. */
-wb_answer wb_strict_color(wb_combiner combiner);
+/* The word of a combiner that gives one constant colour, each channel of it empty or full. */
+wb_strict_answer wb_strict_color(wb_combiner combiner);
 
 /* ---- the blender */
 
@@ -235,7 +238,7 @@ wb_answer wb_blend(wb_mode mode, wb_combiner combiner, wb_rgba rgba, wb_rgba mem
 wb_answer wb_pack_color(uint32_t rgba, uint8_t coverage, uint8_t dither);
 uint32_t wb_pack_depth(float depth);
 
-/* An image is named by its fmt, siz and width, and by whether it holds depths. These two ask about the format, and do not look at the width. */
+/* An image is named by its fmt, siz and width, and by whether it holds depths. These two ask whether its pixels can be encoded, and how many bytes one takes; a width out of range is turned away, though the answer does not turn on it. */
 wb_answer wb_supported(uint8_t fmt, uint8_t siz, uint32_t width, bool depth);
 wb_answer wb_pixel_bytes(uint8_t fmt, uint8_t siz, uint32_t width, bool depth);
 

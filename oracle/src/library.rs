@@ -130,8 +130,7 @@ c_struct! {
 
 c_struct! { Selectors { raw_l: u32, raw_h: u32, cyc0: [u8; 8], cyc1: [u8; 8], } }
 
-/// A struct of the interface for an `Option`. What stands beside `some: false` is no part of the answer, and its words
-/// are zeros.
+/// A struct of the interface for an `Option`. Zeros stand beside `some: false`.
 macro_rules! c_option {
     ($name:ident { $field:ident: $kind:ty }) => {
         #[repr(C)]
@@ -150,12 +149,11 @@ macro_rules! c_option {
         impl Words for $name {
             fn words(&self, sheet: &mut Sheet) {
                 self.some.words(sheet);
-                let shown = if self.some { self.$field } else { <$kind>::default() };
-                shown.words(sheet);
+                self.$field.words(sheet);
             }
 
             fn alike(&self, other: &Self) -> bool {
-                self.some == other.some && (!self.some || self.$field.alike(&other.$field))
+                self.some == other.some && self.$field.alike(&other.$field)
             }
         }
     };
@@ -163,6 +161,7 @@ macro_rules! c_option {
 
 c_option! { ColorAnswer { rgba: Rgba } }
 c_option! { CombinerAnswer { combiner: Combiner } }
+c_option! { StrictAnswer { word: u16 } }
 
 /// Every function of the interface: the name of its call's struct (calls.rs), its own name, its symbol and its type.
 macro_rules! interface {
@@ -185,7 +184,7 @@ macro_rules! interface {
             InRange in_range = wb_in_range(x: f32, y: f32) -> bool;
             CombinerNew combiner_new = wb_combiner_new(uniform: Uniform, mode: Mode) -> CombinerAnswer;
             CombinerColor combiner_color = wb_combiner_color(combiner: Combiner, shade: Rgba) -> ColorAnswer;
-            StrictColor strict_color = wb_strict_color(combiner: Combiner) -> Answer;
+            StrictColor strict_color = wb_strict_color(combiner: Combiner) -> StrictAnswer;
             Destination destination = wb_destination(mode: Mode, count: u8, memory: u8) -> Answer;
             ColorKnown color_known = wb_color_known(
                 mode: Mode, alpha: f32, count: u8, known: bool, coverage: u8, memory_rgb: bool

@@ -219,8 +219,8 @@ pub extern "C" fn wb_combiner_color(combiner: Combiner, shade: Rgba) -> ColorAns
 }
 
 #[no_mangle]
-pub extern "C" fn wb_strict_color(combiner: Combiner) -> Answer {
-    const NONE: Answer = Answer { number: 1, value: 0 };
+pub extern "C" fn wb_strict_color(combiner: Combiner) -> StrictAnswer {
+    const NONE: StrictAnswer = StrictAnswer { some: false, word: 0 };
     let [5, 5, 5, cd, 5, 5, 5, ad] = combiner.selectors else {
         return NONE;
     };
@@ -233,7 +233,7 @@ pub extern "C" fn wb_strict_color(combiner: Combiner) -> Answer {
     if a != 1.0 || [r, g, b].iter().any(|v| *v != 0.0 && *v != 1.0) {
         return NONE;
     }
-    accepted((r as u32 * 31) << 11 | (g as u32 * 31) << 6 | (b as u32 * 31) << 1)
+    Some((r as u16 * 31) << 11 | (g as u16 * 31) << 6 | (b as u16 * 31) << 1).into()
 }
 
 // Single pixels
@@ -377,15 +377,18 @@ pub fn is_supported(fmt: u8, siz: u8, depth: bool) -> bool {
 }
 
 #[no_mangle]
-pub extern "C" fn wb_supported(fmt: u8, siz: u8, _width: u32, depth: bool) -> Answer {
-    if siz > 3 {
+pub extern "C" fn wb_supported(fmt: u8, siz: u8, width: u32, depth: bool) -> Answer {
+    if width == 0 || width > 1024 || siz > 3 {
         return REFUSED;
     }
     accepted(is_supported(fmt, siz, depth))
 }
 
 #[no_mangle]
-pub extern "C" fn wb_pixel_bytes(_fmt: u8, siz: u8, _width: u32, _depth: bool) -> Answer {
+pub extern "C" fn wb_pixel_bytes(_fmt: u8, siz: u8, width: u32, _depth: bool) -> Answer {
+    if width == 0 || width > 1024 {
+        return REFUSED;
+    }
     match siz {
         0 | 1 => accepted(1u32),
         2 => accepted(2u32),

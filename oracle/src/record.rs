@@ -84,6 +84,12 @@ fn words(lines: &mut Vec<String>, inputs: &mut Inputs) {
             }
         }
     }
+    for width in [0, 1, 1024, 1025] {
+        for depth in [false, true] {
+            lines.push(line(&Supported { fmt: 0, siz: 2, width, depth }));
+            lines.push(line(&PixelBytes { fmt: 0, siz: 2, width, depth }));
+        }
+    }
     sample(lines, 160, || any_encode(inputs));
 }
 

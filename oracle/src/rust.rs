@@ -5,7 +5,7 @@
 //! they stand there, cut off where the interface cuts them off.
 
 use crate::draws::Shape;
-use crate::library::{Answer, ColorAnswer, Combiner, CombinerAnswer, Mode, Rgba, Selectors, Uniform};
+use crate::library::{Answer, ColorAnswer, Combiner, CombinerAnswer, Mode, Rgba, Selectors, StrictAnswer, Uniform};
 use original::combiner::{AlphaIn, ColorIn, CycleSel};
 use original::writeback::{self, Parts};
 use original::{coherence, CombinerUniform, FramebufferEncoding, RenderMode};
@@ -309,11 +309,8 @@ pub fn combiner_color(combiner: Combiner, shade: Rgba) -> ColorAnswer {
     writeback::color(parts(combiner), floats(shade)).map(rgba).into()
 }
 
-pub fn strict_color(combiner: Combiner) -> Answer {
-    match writeback::strict_color(parts(combiner)) {
-        Some(word) => Answer { number: 0, value: u32::from(word) },
-        None => Answer { number: 1, value: 0 },
-    }
+pub fn strict_color(combiner: Combiner) -> StrictAnswer {
+    writeback::strict_color(parts(combiner)).into()
 }
 
 pub fn destination(mode: Mode, count: u8, memory: u8) -> Answer {
@@ -361,12 +358,12 @@ pub fn pack_depth(depth: f32) -> u32 {
 }
 
 pub fn supported(fmt: u8, siz: u8, width: u32, depth: bool) -> Answer {
-    let limited = Limited { siz: Some(siz), ..Limited::default() };
+    let limited = Limited { width: Some(width), siz: Some(siz), ..Limited::default() };
     limited.or(|| u32::from(coherence::writer(fmt, siz, width, depth).supported()))
 }
 
 pub fn pixel_bytes(fmt: u8, siz: u8, width: u32, depth: bool) -> Answer {
-    let limited = Limited { siz: Some(siz), ..Limited::default() };
+    let limited = Limited { width: Some(width), siz: Some(siz), ..Limited::default() };
     limited.or(|| coherence::writer(fmt, siz, width, depth).pixel_bytes() as u32)
 }
 

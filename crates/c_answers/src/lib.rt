@@ -2,7 +2,9 @@
 ghost use mathlib.Core.Path.{_≡_};
 ghost use Rattle.pixel.specs.Refusal.{refused};
 ghost use Rattle.pixel.specs.Calls.{destinationMeans, answerMeans, blendMeans, packColorMeans, encodeMeans};
-ghost use Rattle.c_answers.specs.Answers.{same, bit, fourBytes, twoBytes, answerOf, strictAnswer, noColor, colorAnswer, noParts, combinerAnswer};
+ghost use Rattle.combiner.specs.Means.{noColor, noCombiner, madeMeans, colorMeans, strictMeans};
+ghost use Rattle.c_types.specs.Convert.{partsOf};
+ghost use Rattle.c_answers.specs.Answers.{same, bit, fourBytes, twoBytes, answerOf, strictAnswer, colorAnswer, combinerAnswer};
 use c_types::Parts;
 use c_types::parts_of;
 use combiner::Color;
@@ -28,6 +30,13 @@ pub struct ColorAnswer {
     pub rgba: Rgba,
 }
 
+// A word, if there is one, else 0.
+#[repr(C)]
+pub struct StrictAnswer {
+    pub some: bool,
+    pub word: u16,
+}
+
 // A combiner, if there is one, else zeros.
 #[repr(C)]
 pub struct CombinerAnswer {
@@ -37,9 +46,6 @@ pub struct CombinerAnswer {
 
 // The number of a call that is turned away for its arguments.
 const REFUSED: u32 = 11;
-
-// The number of strict_color where there is no word.
-const NOTHING: u32 = 1;
 
 // ---- of single-pixel calls
 
@@ -120,17 +126,14 @@ pub fn encoded(answer: Encoded) -> Answer
 
 // ---- of the combiner
 
-pub fn strict(answer: Strict) -> Answer
-    ensures { λ r. ⌜ r ≡ strictAnswer answer ⌝ }
+pub fn strict(answer: Strict) -> StrictAnswer
+    ensures { λ r. ⌜ r ≡ strictAnswer (strictMeans answer) ⌝ }
 {
     match answer {
-        Strict::Word(word) => Answer {
-            number: 0,
-            value: word as u32,
-        },
-        Strict::Nothing => Answer {
-            number: NOTHING,
-            value: 0,
+        Strict::Word(word) => StrictAnswer { some: true, word },
+        Strict::Nothing => StrictAnswer {
+            some: false,
+            word: 0,
         },
     }
 }
@@ -147,7 +150,7 @@ pub fn no_color() -> Rgba
 }
 
 pub fn colored(answer: Color) -> ColorAnswer
-    ensures { λ r. ⌜ r ≡ colorAnswer answer ⌝ }
+    ensures { λ r. ⌜ r ≡ colorAnswer (colorMeans answer) ⌝ }
 {
     match answer {
         Color::Value(r, g, b, a) => ColorAnswer {
@@ -162,7 +165,7 @@ pub fn colored(answer: Color) -> ColorAnswer
 }
 
 fn no_parts() -> Parts
-    ensures { λ r. ⌜ r ≡ noParts ⌝ }
+    ensures { λ r. ⌜ r ≡ partsOf noCombiner ⌝ }
 {
     let zero = no_color();
     Parts {
@@ -176,7 +179,7 @@ fn no_parts() -> Parts
 }
 
 pub fn made(answer: Made) -> CombinerAnswer
-    ensures { λ r. ⌜ r ≡ combinerAnswer answer ⌝ }
+    ensures { λ r. ⌜ r ≡ combinerAnswer (madeMeans answer) ⌝ }
 {
     match answer {
         Made::With(k) => CombinerAnswer {

@@ -8,7 +8,7 @@ use Rattle.raster.specs.declared.Geometry.the-variants.{Nothing, Triangles, Rec
 use Rattle.c_draw.specs.declared.GeometryParts.{GeometryParts}
 use Rattle.c_draw.specs.declared.FragmentAnswer.{FragmentAnswer}
 use Rattle.c_types.specs.Convert.{numbered}
-use Rattle.c_answers.specs.Answers.{noColor}
+use Rattle.combiner.specs.Means.{noColor}
 
 abbrev pub geometries : GeometryParts → List Geometry
 geometries p = Nothing ∷ Triangles ∷ Rectangle (p .left) (p .top) (p .right) (p .bottom) ∷ []

@@ -2,7 +2,7 @@
 ghost use mathlib.Core.Path.{_≡_};
 ghost use Rattle.num.specs.Whole.{whole, floor, ceil, indexCap};
 ghost use Rattle.selectors.specs.Combine.{select, colorA, colorB, colorC, colorD, alphaABD, alphaC, combineOf};
-ghost use Rattle.combiner.specs.Strict.{colorNumber, alphaNumber};
+ghost use Rattle.selectors.specs.Inputs.{colorNumber, alphaNumber};
 ghost use Rattle.pack.specs.Depth.{packDepthOf};
 ghost use Rattle.c_types.specs.Convert.{selectorsOf};
 use c_types::Selectors;

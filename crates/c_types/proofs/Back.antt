@@ -6,7 +6,7 @@ use Rattle.selectors.specs.declared.AlphaIn.{AlphaIn}
 use Rattle.selectors.specs.declared.AlphaIn.the-variants as ain
 use Rattle.selectors.specs.declared.CycleSel.{CycleSel}
 use Rattle.combiner.specs.declared.Combiner.{Combiner}
-use Rattle.combiner.specs.Strict.{colorNumber, alphaNumber}
+use Rattle.selectors.specs.Inputs.{colorNumber, alphaNumber}
 use Rattle.c_types.specs.Convert.{colorInOf, alphaInOf, cycleFrom, numbersOf, combinerFrom, partsOf}
 
 color-back : (x : ColorIn) → colorInOf (colorNumber x) ≡ x

@@ -18,7 +18,7 @@ use Rattle.pack.specs.declared.FramebufferEncoding.{FramebufferEncoding}
 use Rattle.pack.specs.declared.Literal.{Literal}
 use Rattle.pack.specs.declared.Rgba8.{Rgba8}
 use Rattle.pack.specs.declared.Writer.{Writer}
-use Rattle.combiner.specs.Strict.{colorNumber, alphaNumber}
+use Rattle.selectors.specs.Inputs.{colorNumber, alphaNumber}
 use Rattle.c_types.specs.declared.Mode.{Mode}
 use Rattle.c_types.specs.declared.Parts.{Parts}
 use Rattle.c_types.specs.declared.Selectors.{Selectors}

@@ -1,6 +1,6 @@
 // The C interface's structs for a mode, a combiner and selectors, and the library's types from plain values and back.
 ghost use mathlib.Core.Path.{_≡_};
-ghost use Rattle.combiner.specs.Strict.{colorNumber, alphaNumber};
+ghost use Rattle.selectors.specs.Inputs.{colorNumber, alphaNumber};
 ghost use Rattle.c_types.specs.Convert.{blendClassOf, zModeOf, alphaCompareOf, colorInOf, alphaInOf, modeOf, cycleFrom, numbersOf, combinerFrom, partsOf, selectorsOf, coverageOf, literalOf, encodingOf, writerOf, bytesFrom};
 use blender::Coverage;
 use combiner::Combiner;

@@ -2,3 +2,4 @@
 pub mod Combine
 pub mod Strict
 pub mod New
+pub mod Means

@@ -7,53 +7,19 @@ use mathlib.Core.List.{List, [], _∷_}
 use lib.Dec.{eqb}
 use lib.Ieee.{Float, eq}
 use Rattle.num.specs.Color.{f0, f1}
+use Rattle.mode.specs.declared.Rgba.{Rgba}
 use Rattle.selectors.specs.declared.CycleSel.{CycleSel}
 use Rattle.selectors.specs.declared.ColorIn.{ColorIn}
 use Rattle.selectors.specs.declared.ColorIn.the-variants as cin
 use Rattle.selectors.specs.declared.AlphaIn.{AlphaIn}
 use Rattle.selectors.specs.declared.AlphaIn.the-variants as ain
+use Rattle.selectors.specs.Inputs.{colorNumber, alphaNumber}
 use Rattle.combiner.specs.declared.Color.{Color}
 use Rattle.combiner.specs.declared.Color.the-variants as color
 use Rattle.combiner.specs.declared.Combiner.{Combiner}
 use Rattle.combiner.specs.declared.Strict.{Strict}
 use Rattle.combiner.specs.declared.Strict.the-variants.{Word, Nothing}
 use Rattle.combiner.specs.Combine.{colorOf, fullShade}
-
--- selectors are told apart by their place in the declaration
-unfoldable pub colorNumber : ColorIn → ℕ
-colorNumber cin.Combined = 0
-colorNumber cin.Texel0 = 1
-colorNumber cin.Primitive = 2
-colorNumber cin.Shade = 3
-colorNumber cin.Environment = 4
-colorNumber cin.Zero = 5
-colorNumber cin.One = 6
-colorNumber cin.Texel1 = 7
-colorNumber cin.KeyCenter = 8
-colorNumber cin.K4 = 9
-colorNumber cin.KeyScale = 10
-colorNumber cin.CombinedAlpha = 11
-colorNumber cin.Texel0Alpha = 12
-colorNumber cin.Texel1Alpha = 13
-colorNumber cin.PrimitiveAlpha = 14
-colorNumber cin.ShadeAlpha = 15
-colorNumber cin.EnvAlpha = 16
-colorNumber cin.LodFraction = 17
-colorNumber cin.PrimLodFrac = 18
-colorNumber cin.K5 = 19
-colorNumber cin.Noise = 20
-
-unfoldable pub alphaNumber : AlphaIn → ℕ
-alphaNumber ain.Combined = 0
-alphaNumber ain.Texel0 = 1
-alphaNumber ain.Primitive = 2
-alphaNumber ain.Shade = 3
-alphaNumber ain.Environment = 4
-alphaNumber ain.Zero = 5
-alphaNumber ain.One = 6
-alphaNumber ain.Texel1 = 7
-alphaNumber ain.LodFraction = 8
-alphaNumber ain.PrimLodFrac = 9
 
 -- whether x is one of a list, by a numbering
 abbrev pub among : {E : Type 0} → (E → ℕ) → List E → E → Bool
@@ -88,9 +54,15 @@ pure v = eq v f0 || eq v f1
 unfoldable pub filled : Float → ℕ → ℕ
 filled v bits = cond (eq v f1) bits 0
 
--- the word of a colour that is opaque, with every channel empty or full
+-- a colour that is opaque, with every channel empty or full, and its word
+abbrev pub isStrict : Rgba → Bool
+isStrict c = eq (c .a) f1 && pure (c .r) && pure (c .g) && pure (c .b)
+
+abbrev pub strictWord : Rgba → ℕ
+strictWord c = filled (c .r) 0xf800 + filled (c .g) 0x07c0 + filled (c .b) 0x003e
+
 unfoldable pub wordOf : Float → Float → Float → Float → Strict
-wordOf r g b a = cond (eq a f1 && pure r && pure g && pure b) (Word (filled r 0xf800 + filled g 0x07c0 + filled b 0x003e)) Nothing
+wordOf r g b a = let c : Rgba = record { r = r; g = g; b = b; a = a } in cond (isStrict c) (Word (strictWord c)) Nothing
 
 abbrev pub wordOfColor : Color → Strict
 wordOfColor (color.Value r g b a) = wordOf r g b a

@@ -3,6 +3,7 @@ ghost use mathlib.Core.Path.{_≡_};
 ghost use Rattle.combiner.specs.Combine.{element, colorInput, alphaInput, mixed, fullShade, channelAt, alphaAt, colorOf};
 ghost use Rattle.combiner.specs.Strict.{zeroColor, zeroAlpha, constantColor, constantAlpha, flat, pure, filled, wordOf, strictOf};
 ghost use Rattle.combiner.specs.New.{compares, blendsColor, plain, combinerOf, newOf};
+ghost use Rattle.combiner.specs.Means.{madeMeans, newCall, colorMeans, colorCall, strictMeans, strictCall};
 use mode::AlphaCompare;
 use mode::BlendClass;
 use mode::CombinerUniform;
@@ -235,10 +236,43 @@ fn read_uniform(u: CombinerUniform) -> Combiner
     }
 }
 
+// What a colour selector names, in a channel.
+pub fn color_input(combiner: Combiner, input: ColorIn, shade: Rgba, channel: u8) -> Input
+    ensures { λ r. ⌜ r ≡ colorInput combiner input shade channel ⌝ }
+{
+    match input {
+        ColorIn::Zero | ColorIn::Combined | ColorIn::CombinedAlpha => Input::Value(0.0),
+        ColorIn::One | ColorIn::LodFraction => Input::Value(1.0),
+        ColorIn::Primitive => Input::Value(pick_channel(combiner.prim, channel)),
+        ColorIn::Environment => Input::Value(pick_channel(combiner.env, channel)),
+        ColorIn::Shade => Input::Value(pick_channel(shade, channel)),
+        ColorIn::PrimitiveAlpha => Input::Value(combiner.prim.a),
+        ColorIn::EnvAlpha => Input::Value(combiner.env.a),
+        ColorIn::ShadeAlpha => Input::Value(shade.a),
+        ColorIn::PrimLodFrac => Input::Value(combiner.lod),
+        _ => Input::Refused,
+    }
+}
+
+// What an alpha selector names.
+pub fn alpha_input(combiner: Combiner, input: AlphaIn, shade: Rgba) -> Input
+    ensures { λ r. ⌜ r ≡ alphaInput combiner input shade ⌝ }
+{
+    match input {
+        AlphaIn::Zero | AlphaIn::Combined => Input::Value(0.0),
+        AlphaIn::One | AlphaIn::LodFraction => Input::Value(1.0),
+        AlphaIn::Primitive => Input::Value(combiner.prim.a),
+        AlphaIn::Environment => Input::Value(combiner.env.a),
+        AlphaIn::Shade => Input::Value(shade.a),
+        AlphaIn::PrimLodFrac => Input::Value(combiner.lod),
+        _ => Input::Refused,
+    }
+}
+
 impl Combiner {
     // The combiner of a draw, if it gives a colour. Whether it does turns on no shade, so one shade tells.
     pub fn new(uniform: CombinerUniform, mode: RenderMode) -> Made
-        ensures { λ r. ⌜ r ≡ newOf uniform mode ⌝ }
+        ensures { λ r. ⌜ madeMeans r ≡ newCall uniform mode ⌝ ∗ ⌜ r ≡ newOf uniform mode ⌝ }
     {
         if uniform.tex_enable != 0 {
             return Made::Without;
@@ -253,52 +287,19 @@ impl Combiner {
         Made::With(result)
     }
 
-    // What a colour selector names, in a channel.
-    pub fn color_input(self, input: ColorIn, shade: Rgba, channel: u8) -> Input
-        ensures { λ r. ⌜ r ≡ colorInput self input shade channel ⌝ }
-    {
-        match input {
-            ColorIn::Zero | ColorIn::Combined | ColorIn::CombinedAlpha => Input::Value(0.0),
-            ColorIn::One | ColorIn::LodFraction => Input::Value(1.0),
-            ColorIn::Primitive => Input::Value(pick_channel(self.prim, channel)),
-            ColorIn::Environment => Input::Value(pick_channel(self.env, channel)),
-            ColorIn::Shade => Input::Value(pick_channel(shade, channel)),
-            ColorIn::PrimitiveAlpha => Input::Value(self.prim.a),
-            ColorIn::EnvAlpha => Input::Value(self.env.a),
-            ColorIn::ShadeAlpha => Input::Value(shade.a),
-            ColorIn::PrimLodFrac => Input::Value(self.lod),
-            _ => Input::Refused,
-        }
-    }
-
-    // What an alpha selector names.
-    pub fn alpha_input(self, input: AlphaIn, shade: Rgba) -> Input
-        ensures { λ r. ⌜ r ≡ alphaInput self input shade ⌝ }
-    {
-        match input {
-            AlphaIn::Zero | AlphaIn::Combined => Input::Value(0.0),
-            AlphaIn::One | AlphaIn::LodFraction => Input::Value(1.0),
-            AlphaIn::Primitive => Input::Value(self.prim.a),
-            AlphaIn::Environment => Input::Value(self.env.a),
-            AlphaIn::Shade => Input::Value(shade.a),
-            AlphaIn::PrimLodFrac => Input::Value(self.lod),
-            _ => Input::Refused,
-        }
-    }
-
     // Red, green or blue.
     fn rgb(self, shade: Rgba, channel: u8) -> Input
         ensures { λ r. ⌜ r ≡ channelAt self shade channel ⌝ }
     {
         let s = self.selectors;
         let ca = s.ca;
-        let a = self.color_input(ca, shade, channel);
+        let a = color_input(self, ca, shade, channel);
         let cb = s.cb;
-        let b = self.color_input(cb, shade, channel);
+        let b = color_input(self, cb, shade, channel);
         let cc = s.cc;
-        let c = self.color_input(cc, shade, channel);
+        let c = color_input(self, cc, shade, channel);
         let cd = s.cd;
-        let d = self.color_input(cd, shade, channel);
+        let d = color_input(self, cd, shade, channel);
         mix(a, b, c, d)
     }
 
@@ -307,19 +308,19 @@ impl Combiner {
     {
         let s = self.selectors;
         let aa = s.aa;
-        let a = self.alpha_input(aa, shade);
+        let a = alpha_input(self, aa, shade);
         let ab = s.ab;
-        let b = self.alpha_input(ab, shade);
+        let b = alpha_input(self, ab, shade);
         let ac = s.ac;
-        let c = self.alpha_input(ac, shade);
+        let c = alpha_input(self, ac, shade);
         let ad = s.ad;
-        let d = self.alpha_input(ad, shade);
+        let d = alpha_input(self, ad, shade);
         mix(a, b, c, d)
     }
 
     // The colour for a shade.
     pub fn color(self, shade: Rgba) -> Color
-        ensures { λ r. ⌜ r ≡ colorOf self shade ⌝ }
+        ensures { λ r. ⌜ colorMeans r ≡ colorCall self shade ⌝ ∗ ⌜ r ≡ colorOf self shade ⌝ }
     {
         let Input::Value(r) = self.rgb(shade, 0) else {
             return Color::Refused;
@@ -338,7 +339,7 @@ impl Combiner {
 
     // The word of a combiner that gives one constant colour, each channel of it empty or full.
     pub fn strict_color(self) -> Strict
-        ensures { λ r. ⌜ r ≡ strictOf self ⌝ }
+        ensures { λ r. ⌜ strictMeans r ≡ strictCall self ⌝ ∗ ⌜ r ≡ strictOf self ⌝ }
     {
         if is_flat(self.selectors) {
             let Color::Value(r, g, b, a) = self.color(full_shade()) else {

@@ -4,9 +4,8 @@ ghost use mathlib.Core.Path.{_≡_};
 ghost use Rattle.num.specs.Color.{clamped, isFinite, totalLe};
 ghost use Rattle.num.specs.Whole.{whole, floor, ceil, indexCap, byteOf, quarterOf};
 ghost use Rattle.selectors.specs.Combine.{select, colorA, colorB, colorC, colorD, alphaABD, alphaC, combineOf};
-ghost use Rattle.combiner.specs.Combine.{colorOf};
-ghost use Rattle.combiner.specs.New.{newOf};
-ghost use Rattle.combiner.specs.Strict.{colorNumber, alphaNumber, strictOf};
+ghost use Rattle.combiner.specs.Means.{newCall, colorCall, strictCall};
+ghost use Rattle.selectors.specs.Inputs.{colorNumber, alphaNumber};
 ghost use Rattle.pack.specs.Depth.{packDepthOf};
 ghost use Rattle.pixel.specs.Calls.{destinationCall, colorKnownCall, blendCall, packColorCall, supportedCall, pixelBytesCall, encodeCall};
 ghost use mathlib.Core.Bool.{_&&_};
@@ -19,6 +18,7 @@ ghost use Rattle.c_draw.specs.Draws.{geometryFrom, fragmentAnswer};
 use c_answers::Answer;
 use c_answers::ColorAnswer;
 use c_answers::CombinerAnswer;
+use c_answers::StrictAnswer;
 use c_draw::FragmentAnswer;
 use c_draw::GeometryParts;
 use c_types::Mode;
@@ -137,21 +137,21 @@ pub extern "C" fn wb_le_total(a: f32, b: f32) -> bool
 
 #[no_mangle]
 pub extern "C" fn wb_combiner_new(uniform: CombinerUniform, mode: Mode) -> CombinerAnswer
-    ensures { λ r. ⌜ r ≡ combinerAnswer (newOf uniform (modeOf mode)) ⌝ }
+    ensures { λ r. ⌜ r ≡ combinerAnswer (newCall uniform (modeOf mode)) ⌝ }
 {
     c_combiner::combiner_new(uniform, mode)
 }
 
 #[no_mangle]
 pub extern "C" fn wb_combiner_color(combiner: Parts, shade: Rgba) -> ColorAnswer
-    ensures { λ r. ⌜ r ≡ colorAnswer (colorOf (combinerFrom combiner) shade) ⌝ }
+    ensures { λ r. ⌜ r ≡ colorAnswer (colorCall (combinerFrom combiner) shade) ⌝ }
 {
     c_combiner::combiner_color(combiner, shade)
 }
 
 #[no_mangle]
-pub extern "C" fn wb_strict_color(combiner: Parts) -> Answer
-    ensures { λ r. ⌜ r ≡ strictAnswer (strictOf (combinerFrom combiner)) ⌝ }
+pub extern "C" fn wb_strict_color(combiner: Parts) -> StrictAnswer
+    ensures { λ r. ⌜ r ≡ strictAnswer (strictCall (combinerFrom combiner)) ⌝ }
 {
     c_combiner::strict_color(combiner)
 }

@@ -9,7 +9,7 @@ use Rattle.selectors.specs.declared.AlphaIn.{AlphaIn}
 use Rattle.selectors.specs.declared.AlphaIn.the-variants as ain
 use Rattle.combiner.specs.declared.Combiner.{Combiner}
 use Rattle.combiner.specs.Combine.{colorInput, alphaInput, mixed, joined, channelAt, alphaAt, colorOf}
-use Rattle.combiner.specs.Strict.{colorNumber, alphaNumber}
+use Rattle.selectors.specs.Inputs.{colorNumber, alphaNumber}
 use Rattle.mixer.specs.Shaded.{shadeColor, shadeAlpha, shadeUsed}
 
 -- ---- the inputs

@@ -17,7 +17,7 @@ use Rattle.combiner.specs.declared.Input.{Input}
 use Rattle.combiner.specs.declared.Input.the-variants.{Value}
 use Rattle.combiner.specs.declared.Made.the-variants.{With}
 use Rattle.combiner.specs.Combine.{element, colorInput, alphaInput, mixed, joined, channelAt, alphaAt, colorOf, fullShade}
-use Rattle.combiner.specs.Strict.{colorNumber, alphaNumber}
+use Rattle.selectors.specs.Inputs.{colorNumber, alphaNumber}
 use Rattle.combiner.specs.New.{newOf}
 use Rattle.mixer.specs.Shaded.{shadeAlpha}
 use Rattle.mixer.specs.Mixer.{inputOf, inputBy, channelsOf, mixedBy, colorValue, orZero, shadeFlag, shadeAlphaFlag, kindOf, operandOf, mixerOf}

@@ -18,7 +18,8 @@ use Rattle.mixer.specs.declared.Kind.the-variants.{Constant, ConstantSha
 use Rattle.mixer.specs.declared.Operand.{Operand}
 use Rattle.mixer.specs.declared.Mixer.{Mixer}
 use Rattle.combiner.specs.Combine.{colorInput, alphaInput, fullShade}
-use Rattle.combiner.specs.Strict.{colorNumber, among}
+use Rattle.combiner.specs.Strict.{among}
+use Rattle.selectors.specs.Inputs.{colorNumber}
 use Rattle.mixer.specs.Shaded.{shadeAlpha}
 
 -- ---- a pixel

@@ -7,7 +7,8 @@ use Rattle.selectors.specs.declared.ColorIn.the-variants as cin
 use Rattle.selectors.specs.declared.AlphaIn.{AlphaIn}
 use Rattle.selectors.specs.declared.AlphaIn.the-variants as ain
 use Rattle.combiner.specs.declared.Combiner.{Combiner}
-use Rattle.combiner.specs.Strict.{colorNumber, alphaNumber, among}
+use Rattle.combiner.specs.Strict.{among}
+use Rattle.selectors.specs.Inputs.{colorNumber, alphaNumber}
 
 unfoldable pub shadeColor : ColorIn → Bool
 shadeColor x = among colorNumber (cin.Shade ∷ cin.ShadeAlpha ∷ []) x

@@ -165,10 +165,10 @@ fn operand_of(combiner: Combiner, color: ColorIn, alpha: AlphaIn) -> Operand
     ensures { λ r. ⌜ r ≡ operandOf combiner color alpha ⌝ }
 {
     let full = combiner::full_shade();
-    let r = value_or_zero(combiner.color_input(color, full, 0));
-    let g = value_or_zero(combiner.color_input(color, full, 1));
-    let b = value_or_zero(combiner.color_input(color, full, 2));
-    let a = value_or_zero(combiner.alpha_input(alpha, full));
+    let r = value_or_zero(combiner::color_input(combiner, color, full, 0));
+    let g = value_or_zero(combiner::color_input(combiner, color, full, 1));
+    let b = value_or_zero(combiner::color_input(combiner, color, full, 2));
+    let a = value_or_zero(combiner::alpha_input(combiner, alpha, full));
     let kind = kind_of(
         shade_flag(color),
         shade_alpha_flag(color),

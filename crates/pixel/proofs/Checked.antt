@@ -5,7 +5,7 @@ use mathlib.Core.Bool.{Bool, true, false, cond, _&&_, true≢false}
 use lib.Dec.{leb}
 use borrow.Author.Tests.{leb-true}
 use Rattle.pack.specs.declared.Writer.{Writer}
-use Rattle.pixel.specs.Refusal.{countOk, coverageOk, widthOk, sizOk, placeOk, writerOk, accepted, refused, checked}
+use Rattle.pixel.specs.Refusal.{countOk, coverageOk, widthOk, sizOk, placeOk, writerOk, encodeOk, accepted, refused, checked}
 
 -- what a test of a callee's answer says of what it answers for
 pub told : {r x b : Bool} → r ≡ x → r ≡ b → x ≡ b
@@ -48,13 +48,13 @@ coverages c p = leb-true c 7 p
 pub sizes : (s : ℕ) → sizOk s ≡ true → s ≤ 3
 sizes s p = leb-true s 3 p
 
-pub writes : (w : Writer) (c p : ℕ) → writerOk w c p ≡ true → (w .layout .siz ≤ 3) × (0 < w .layout .width) × (c ≤ 7)
+pub writers : (w : Writer) → writerOk w ≡ true → (w .layout .siz ≤ 3) × (0 < w .layout .width)
+writers w t =
+    let n = w .layout .width in
+    let wide = left (widthOk n) (sizOk (w .layout .siz)) t in
+    (sizes (w .layout .siz) (right (widthOk n) (sizOk (w .layout .siz)) t), leb-true 1 n (left (leb 1 n) (leb n 1024) wide))
+
+pub writes : (w : Writer) (c p : ℕ) → encodeOk w c p ≡ true → (w .layout .siz ≤ 3) × (0 < w .layout .width) × (c ≤ 7)
 writes w c p t =
-    let width = widthOk (w .layout .width) in
-    let siz = sizOk (w .layout .siz) in
-    let three = left (coverageOk c && width && siz) (placeOk p) t in
-    let two = left (coverageOk c && width) siz three in (
-      sizes (w .layout .siz) (right (coverageOk c && width) siz three),
-      leb-true 1 (w .layout .width) (left (leb 1 (w .layout .width)) (leb (w .layout .width) 1024) (right (coverageOk c) width two)),
-      coverages c (left (coverageOk c) width two),
-    )
+    let writer = writers w (left (writerOk w) (coverageOk c && placeOk p) t) in
+    (writer .0, writer .1, coverages c (left (coverageOk c) (placeOk p) (right (writerOk w) (coverageOk c && placeOk p) t)))

@@ -30,7 +30,7 @@ use Rattle.pixel.specs.declared.Packed.{Packed}
 use Rattle.pixel.specs.declared.Packed.the-variants as packed
 use Rattle.pixel.specs.declared.PixelBytes.{PixelBytes}
 use Rattle.pixel.specs.declared.PixelBytes.the-variants as size
-use Rattle.pixel.specs.Refusal.{countOk, coverageOk, knownOk, sizOk, writerOk, Outcome, accepted, refused, checked}
+use Rattle.pixel.specs.Refusal.{countOk, coverageOk, knownOk, writerOk, encodeOk, Outcome, accepted, refused, checked}
 
 -- ---- a yes or a no
 abbrev pub answerMeans : Answer → Outcome Bool
@@ -72,14 +72,14 @@ packColorCall rgba coverage threshold = checked (coverageOk coverage) (packColor
 
 -- ---- Writer::supported and Writer::pixel_bytes
 unfoldable pub supportedCall : Writer → Outcome Bool
-supportedCall w = checked (sizOk (w .layout .siz)) (supportedOf w) false
+supportedCall w = checked (writerOk w) (supportedOf w) false
 
 abbrev pub pixelBytesMeans : PixelBytes → Outcome ℕ
 pixelBytesMeans (size.Bytes n) = accepted n
 pixelBytesMeans size.Refused = refused 0
 
 unfoldable pub pixelBytesCall : Writer → Outcome ℕ
-pixelBytesCall w = checked (sizOk (w .layout .siz)) (pixelBytesOf (w .layout)) 0
+pixelBytesCall w = checked (writerOk w) (pixelBytesOf (w .layout)) 0
 
 -- ---- Writer::encode
 abbrev pub noWord : Bytes2
@@ -91,4 +91,4 @@ encodeMeans encoded.Refused = refused noWord
 
 unfoldable pub encodeCall : Writer → Rgba8 → ℕ → ℕ → Literal → ℕ → FramebufferEncoding → Outcome Bytes2
 encodeCall w rgba coverage pixel literal dither encoding =
-    checked (writerOk w coverage pixel) (encodeOf w rgba coverage pixel literal dither encoding) noWord
+    checked (encodeOk w coverage pixel) (encodeOf w rgba coverage pixel literal dither encoding) noWord

@@ -35,9 +35,13 @@ sizOk s = leb s 3
 abbrev pub placeOk : ℕ → Bool
 placeOk p = ltb p 1048576
 
--- what `encode` takes of these
-abbrev pub writerOk : Writer → ℕ → ℕ → Bool
-writerOk w coverage pixel = coverageOk coverage && widthOk (w .layout .width) && sizOk (w .layout .siz) && placeOk pixel
+-- what every call with a writer takes of these, also where it needs only one of the two
+abbrev pub writerOk : Writer → Bool
+writerOk w = widthOk (w .layout .width) && sizOk (w .layout .siz)
+
+-- what `encode` takes
+abbrev pub encodeOk : Writer → ℕ → ℕ → Bool
+encodeOk w coverage pixel = writerOk w && (coverageOk coverage && placeOk pixel)
 
 -- a call's outcome in document 01's terms: its number, 0 where it is accepted, and its value
 pub record Outcome (A : Type 0) : Type 0 where

@@ -1,6 +1,6 @@
 // The single-pixel calls as a host makes them: each checks what document 01's number 11 names of its arguments, and answers zeros or no where it is turned away.
 ghost use mathlib.Core.Path.{_≡_};
-ghost use Rattle.pixel.specs.Refusal.{countOk, coverageOk, knownOk, widthOk, sizOk, placeOk, writerOk, accepted};
+ghost use Rattle.pixel.specs.Refusal.{countOk, coverageOk, knownOk, widthOk, sizOk, placeOk, writerOk, encodeOk, accepted};
 ghost use Rattle.pixel.specs.Calls.{destinationMeans, destinationCall, answerMeans, colorKnownCall, blendMeans, blendCall, packColorMeans, packColorCall, supportedCall, pixelBytesMeans, pixelBytesCall, encodeMeans, encodeCall};
 use blender::Coverage;
 use combiner::Combiner;
@@ -99,16 +99,23 @@ fn place_ok(pixel: usize) -> bool
     pixel < PIXELS
 }
 
-// Everything that `encode` takes.
-fn writer_ok(writer: Writer, coverage: u8, pixel: usize) -> bool
-    ensures { λ r. ⌜ r ≡ writerOk writer coverage pixel ⌝ }
+// Every call that takes a writer looks at its width and siz, also where it needs only one of them.
+fn writer_ok(writer: Writer) -> bool
+    ensures { λ r. ⌜ r ≡ writerOk writer ⌝ }
 {
-    if coverage_ok(coverage) {
-        if width_ok(writer.layout.width) {
-            if siz_ok(writer.layout.siz) {
-                return place_ok(pixel);
-            }
-            return false;
+    if width_ok(writer.layout.width) {
+        return siz_ok(writer.layout.siz);
+    }
+    false
+}
+
+// Everything that `encode` takes.
+fn encode_ok(writer: Writer, coverage: u8, pixel: usize) -> bool
+    ensures { λ r. ⌜ r ≡ encodeOk writer coverage pixel ⌝ }
+{
+    if writer_ok(writer) {
+        if coverage_ok(coverage) {
+            return place_ok(pixel);
         }
         return false;
     }
@@ -192,7 +199,7 @@ pub fn pack_color(rgba: Rgba8, coverage: u8, dither: u8) -> Packed
 pub fn supported(writer: Writer) -> Answer
     ensures { λ r. ⌜ answerMeans r ≡ supportedCall writer ⌝ }
 {
-    if siz_ok(writer.layout.siz) {
+    if writer_ok(writer) {
         return yes_or_no(pack::supported(writer));
     }
     Answer::Refused
@@ -202,7 +209,7 @@ pub fn supported(writer: Writer) -> Answer
 pub fn pixel_bytes(writer: Writer) -> PixelBytes
     ensures { λ r. ⌜ pixelBytesMeans r ≡ pixelBytesCall writer ⌝ }
 {
-    if siz_ok(writer.layout.siz) {
+    if writer_ok(writer) {
         return PixelBytes::Bytes(pack::pixel_bytes(writer.layout));
     }
     PixelBytes::Refused
@@ -220,7 +227,7 @@ pub fn encode(
 ) -> Encoded
     ensures { λ r. ⌜ encodeMeans r ≡ encodeCall writer rgba coverage pixel literal «rgb_dither» encoding ⌝ }
 {
-    if writer_ok(writer, coverage, pixel) {
+    if encode_ok(writer, coverage, pixel) {
         let bytes = pack::encode(writer, rgba, coverage, pixel, literal, rgb_dither, encoding);
         return Encoded::Bytes(bytes.0, bytes.1);
     }

@@ -113,15 +113,14 @@ fn combiner_color(w: &Words) -> bool {
     }
 }
 
-// No word is the number 1.
 fn strict_color(w: &Words) -> bool {
     if !combiner_within(w, 0) {
         return false;
     }
     let strict = values::combiner(w, 0).strict_color();
     match strict {
-        Strict::Word(word) => same_answer(0, word as u32, w, 25),
-        Strict::Nothing => same_answer(1, 0, w, 25),
+        Strict::Word(word) => same_answer(1, word as u32, w, 25),
+        Strict::Nothing => same_answer(0, 0, w, 25),
     }
 }
 

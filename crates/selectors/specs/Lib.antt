@@ -1,2 +1,3 @@
 -- The definitions that the contracts of `selectors` cite.
 pub mod Combine
+pub mod Inputs

@@ -2,6 +2,7 @@
 use bits::bits;
 ghost use mathlib.Core.Path.{_≡_};
 ghost use Rattle.selectors.specs.Combine.{select, colorA, colorB, colorC, colorD, alphaABD, alphaC, cycleOf, combineOf};
+ghost use Rattle.selectors.specs.Inputs.{colorNumber, alphaNumber};
 
 // What a colour slot can read.
 pub enum ColorIn {
@@ -64,7 +65,7 @@ pub struct CombinerSelectors {
 
 // The colour slot a, of four bits.
 pub fn color_a(idx: u32) -> ColorIn
-    ensures { λ r. ⌜ r ≡ select colorA ColorIn.Zero 4 idx ⌝ }
+    ensures { λ r. ⌜ colorNumber r ≡ colorNumber (select colorA ColorIn.Zero 4 idx) ⌝ ∗ ⌜ r ≡ select colorA ColorIn.Zero 4 idx ⌝ }
 {
     match idx & 0xF {
         0 => ColorIn::Combined,
@@ -81,7 +82,7 @@ pub fn color_a(idx: u32) -> ColorIn
 
 // The colour slot b, of four bits.
 pub fn color_b(idx: u32) -> ColorIn
-    ensures { λ r. ⌜ r ≡ select colorB ColorIn.Zero 4 idx ⌝ }
+    ensures { λ r. ⌜ colorNumber r ≡ colorNumber (select colorB ColorIn.Zero 4 idx) ⌝ ∗ ⌜ r ≡ select colorB ColorIn.Zero 4 idx ⌝ }
 {
     match idx & 0xF {
         0 => ColorIn::Combined,
@@ -98,7 +99,7 @@ pub fn color_b(idx: u32) -> ColorIn
 
 // The colour slot c, of five bits.
 pub fn color_c(idx: u32) -> ColorIn
-    ensures { λ r. ⌜ r ≡ select colorC ColorIn.Zero 5 idx ⌝ }
+    ensures { λ r. ⌜ colorNumber r ≡ colorNumber (select colorC ColorIn.Zero 5 idx) ⌝ ∗ ⌜ r ≡ select colorC ColorIn.Zero 5 idx ⌝ }
 {
     match idx & 0x1F {
         0 => ColorIn::Combined,
@@ -123,7 +124,7 @@ pub fn color_c(idx: u32) -> ColorIn
 
 // The colour slot d, of three bits.
 pub fn color_d(idx: u32) -> ColorIn
-    ensures { λ r. ⌜ r ≡ select colorD ColorIn.Zero 3 idx ⌝ }
+    ensures { λ r. ⌜ colorNumber r ≡ colorNumber (select colorD ColorIn.Zero 3 idx) ⌝ ∗ ⌜ r ≡ select colorD ColorIn.Zero 3 idx ⌝ }
 {
     match idx & 0x7 {
         0 => ColorIn::Combined,
@@ -139,7 +140,7 @@ pub fn color_d(idx: u32) -> ColorIn
 
 // The alpha slots a, b and d, of three bits.
 pub fn alpha_abd(idx: u32) -> AlphaIn
-    ensures { λ r. ⌜ r ≡ select alphaABD AlphaIn.Zero 3 idx ⌝ }
+    ensures { λ r. ⌜ alphaNumber r ≡ alphaNumber (select alphaABD AlphaIn.Zero 3 idx) ⌝ ∗ ⌜ r ≡ select alphaABD AlphaIn.Zero 3 idx ⌝ }
 {
     match idx & 0x7 {
         0 => AlphaIn::Combined,
@@ -155,7 +156,7 @@ pub fn alpha_abd(idx: u32) -> AlphaIn
 
 // The alpha slot c, of three bits.
 pub fn alpha_c(idx: u32) -> AlphaIn
-    ensures { λ r. ⌜ r ≡ select alphaC AlphaIn.Zero 3 idx ⌝ }
+    ensures { λ r. ⌜ alphaNumber r ≡ alphaNumber (select alphaC AlphaIn.Zero 3 idx) ⌝ ∗ ⌜ r ≡ select alphaC AlphaIn.Zero 3 idx ⌝ }
 {
     match idx & 0x7 {
         0 => AlphaIn::LodFraction,

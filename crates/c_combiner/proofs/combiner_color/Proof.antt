@@ -1,6 +1,6 @@
 -- `c_combiner::combiner_color` meets its contract: the combiner from its numbers. Assumes nothing.
 use mathlib.Core.Path.{ap, _∙_}
-use Rattle.combiner.specs.Combine.{colorOf}
+use Rattle.combiner.specs.Means.{colorCall}
 use Rattle.c_answers.specs.Answers.{colorAnswer}
 use borrow.Author.Needs.{needs}
 use Rattle.c_combiner.proofs.combiner_color.Statement.{statement}
@@ -16,7 +16,7 @@ colored-requires : tie.Need-colored-requires
 colored-requires c κs = search needs
 
 returns : tie.Need-returns
-returns c = c .colored .ensures ∙ ap colorAnswer (c .before .color .ensures ∙ ap (λ k. colorOf k (c .before .before .before .args .shade)) (c .before .before .combiner-of .ensures))
+returns c = c .colored .ensures ∙ ap colorAnswer (c .before .color .ensures .0 ∙ ap (λ k. colorCall k (c .before .before .before .args .shade)) (c .before .before .combiner-of .ensures))
 
 pub combiner-color-spec : {M : Type 1} → statement M
 combiner-color-spec =

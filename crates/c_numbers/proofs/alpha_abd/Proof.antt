@@ -1,6 +1,5 @@
 -- `c_numbers::alpha_abd` meets its contract: the number of what the slot names. Assumes nothing.
-use mathlib.Core.Path.{ap, _∙_}
-use Rattle.combiner.specs.Strict.{alphaNumber}
+use mathlib.Core.Path.{_∙_}
 use borrow.Author.Needs.{needs}
 use Rattle.c_numbers.proofs.alpha_abd.Statement.{statement}
 use Rattle.c_numbers.proofs.alpha_abd.Tie as tie
@@ -15,7 +14,7 @@ cast-result : tie.Need-cast-result
 cast-result c = search needs
 
 returns : tie.Need-returns
-returns c = c .alpha-number .ensures ∙ ap alphaNumber (c .before .alpha-abd .ensures)
+returns c = c .alpha-number .ensures ∙ c .before .alpha-abd .ensures .0
 
 pub alpha-abd-spec : {M : Type 1} → statement M
 alpha-abd-spec =

@@ -9,7 +9,7 @@ use Rattle.checks.proofs.alpha_check.Tie as tie
 
 -- the first vertex's combined colour
 combined : (w : tie.After-color) → w .color .result ≡ (let s = w .before .before .args in colorOf (s .combiner) (colourOf (s .a)))
-combined w = w .color .ensures ∙ ap (colorOf (w .before .before .args .combiner)) (w .before .colour .ensures)
+combined w = w .color .ensures .1 ∙ ap (colorOf (w .before .before .args .combiner)) (w .before .colour .ensures)
 
 colour-requires : tie.Need-colour-requires
 colour-requires c κs = search needs

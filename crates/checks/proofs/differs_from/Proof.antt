@@ -18,7 +18,7 @@ alpha-differs-requires c κs = search needs
 returns : tie.Need-returns
 returns c =
     let s = c .before .before .before .args in
-    c .alpha-differs .ensures ∙ ap (alphaDiffers (s .alpha)) (c .before .color .ensures ∙ ap (colorOf (s .combiner)) (c .before .before .colour .ensures))
+    c .alpha-differs .ensures ∙ ap (alphaDiffers (s .alpha)) (c .before .color .ensures .1 ∙ ap (colorOf (s .combiner)) (c .before .before .colour .ensures))
 
 pub differs-from-spec : {M : Type 1} → statement M
 differs-from-spec =

@@ -1,7 +1,8 @@
 -- `alpha_is_zero`: Zero's arm, and the arm of every other selector.
 use mathlib.Core.Path.{refl, sym, ap}
 use mathlib.Core.List.{[], _∷_}
-use Rattle.combiner.specs.Strict.{zeroAlpha, alphaNumber}
+use Rattle.combiner.specs.Strict.{zeroAlpha}
+use Rattle.selectors.specs.Inputs.{alphaNumber}
 use Rattle.combiner.proofs.Tags.{others, alphas, alpha-one-of}
 use borrow.Author.Needs.{needs}
 use Rattle.combiner.proofs.alpha_is_zero.Statement.{statement}

@@ -1,7 +1,8 @@
 -- `color_is_constant`: the arm of the constants, and the arm of every other selector.
 use mathlib.Core.Path.{refl}
 use mathlib.Core.List.{[], _∷_}
-use Rattle.combiner.specs.Strict.{constantColor, colorNumber}
+use Rattle.combiner.specs.Strict.{constantColor}
+use Rattle.selectors.specs.Inputs.{colorNumber}
 use Rattle.combiner.proofs.Tags.{others, colors, color-one-of}
 use Rattle.combiner.proofs.color_is_constant.Statement.{statement}
 use Rattle.combiner.proofs.color_is_constant.Tie as tie

@@ -1,7 +1,8 @@
 -- `color_is_zero`: Zero's arm, and the arm of every other selector.
 use mathlib.Core.Path.{refl, sym, ap}
 use mathlib.Core.List.{[], _∷_}
-use Rattle.combiner.specs.Strict.{zeroColor, colorNumber}
+use Rattle.combiner.specs.Strict.{zeroColor}
+use Rattle.selectors.specs.Inputs.{colorNumber}
 use Rattle.combiner.proofs.Tags.{others, colors, color-one-of}
 use borrow.Author.Needs.{needs}
 use Rattle.combiner.proofs.color_is_zero.Statement.{statement}

@@ -21,19 +21,19 @@ enum-told : tie.Need-enum-told
 enum-told c = search needs
 
 returns-2 : tie.Need-returns-2
-returns-2 c = sixth _ _ _ _ (c .before .before .before .before .entry-refusal .ensures) (c .before .before .before .if1 .left) (c .before .before .new .ensures) (c .enum-told .given .1)
+returns-2 c = sixth _ _ _ _ (c .before .before .before .before .entry-refusal .ensures) (c .before .before .before .if1 .left) (c .before .before .new .ensures .1) (c .enum-told .given .1)
 
 admitted-requires : tie.Need-admitted-requires
 admitted-requires c κs = search needs
 
 returns-3 : tie.Need-returns-3
 returns-3 c =
-    seventh _ _ _ _ (c .before .before .before .before .before .before .before .entry-refusal .ensures) (c .before .before .before .before .before .before .if1 .left) (c .before .before .before .before .before .new .ensures) (c .before .before .before .combiner .given .1)
+    seventh _ _ _ _ (c .before .before .before .before .before .before .before .entry-refusal .ensures) (c .before .before .before .before .before .before .if1 .left) (c .before .before .before .before .before .new .ensures .1) (c .before .before .before .combiner .given .1)
     (was-false (c .before .admitted .ensures) (c .if2 .taken))
 
 returns-4 : tie.Need-returns-4
 returns-4 c =
-    taken _ _ _ _ (c .before .before .before .before .before .before .before .entry-refusal .ensures) (c .before .before .before .before .before .before .if1 .left) (c .before .before .before .before .before .new .ensures) (c .before .before .before .combiner .given .1)
+    taken _ _ _ _ (c .before .before .before .before .before .before .before .entry-refusal .ensures) (c .before .before .before .before .before .before .if1 .left) (c .before .before .before .before .before .new .ensures .1) (c .before .before .before .combiner .given .1)
     (was-true (c .before .admitted .ensures) (c .if2 .left))
 
 pub accept-spec : {M : Type 1} → statement M

@@ -1,7 +1,7 @@
 -- `shade_flag`: Shade's arm, and the arm of every other selector.
 use mathlib.Core.Path.{refl, sym, ap}
 use mathlib.Core.List.{[], _∷_}
-use Rattle.combiner.specs.Strict.{colorNumber}
+use Rattle.selectors.specs.Inputs.{colorNumber}
 use Rattle.mixer.specs.Mixer.{shadeFlag}
 use Rattle.combiner.proofs.Tags.{others, colors, color-one-of}
 use borrow.Author.Needs.{needs}

@@ -12,16 +12,16 @@ yes-or-no-requires c κs = search needs
 supported-requires : tie.Need-supported-requires
 supported-requires c κs = search needs
 
-siz-ok-requires : tie.Need-siz-ok-requires
-siz-ok-requires c κs = search needs
+writer-ok-requires : tie.Need-writer-ok-requires
+writer-ok-requires c κs = search needs
 
 returns : tie.Need-returns
 unfolding supportedCall
-returns c = c .yes-or-no .ensures ∙ passes _ _ (told (c .before .before .before .siz-ok .ensures) (c .before .before .if1 .taken)) (c .before .supported .ensures)
+returns c = c .yes-or-no .ensures ∙ passes _ _ (told (c .before .before .before .writer-ok .ensures) (c .before .before .if1 .taken)) (c .before .supported .ensures)
 
 returns-2 : tie.Need-returns-2
 unfolding supportedCall
-returns-2 c = fails _ _ (told (c .before .siz-ok .ensures) (c .if1 .left))
+returns-2 c = fails _ _ (told (c .before .writer-ok .ensures) (c .if1 .left))
 
 pub supported-spec : {M : Type 1} → statement M
-supported-spec = tie.close (tie.spec siz-ok-requires supported-requires yes-or-no-requires returns returns-2)
+supported-spec = tie.close (tie.spec writer-ok-requires supported-requires yes-or-no-requires returns returns-2)

@@ -69,7 +69,7 @@ returns-4 : tie.Need-returns-4
 returns-4 c =
     let w = c .before .before .before .before .before .before in
     let s = w .before .before .before .before .before .args in
-    let k = c .before .color .ensures ∙ ap (colorOf (s .combiner)) (c .before .before .full-shade .ensures) in
+    let k = c .before .color .ensures .1 ∙ ap (colorOf (s .combiner)) (c .before .before .full-shade .ensures) in
     c .rectangle-pixel .ensures ∙ recolored _ _ _ _ k ∙ by-case w (c .before .before .before .before .geometry .given .1)
 
 returns-5 : tie.Need-returns-5

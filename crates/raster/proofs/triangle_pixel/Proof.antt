@@ -35,7 +35,7 @@ returns-2 c =
     let s = c .before .before .before .before .before .before .args in
     let m = c .before .before .before .before .before .mask .ensures in
     let e = c .before .before .shade .ensures in
-    let k = c .before .color .ensures ∙ ap (colorOf (s .combiner)) e in
+    let k = c .before .color .ensures .1 ∙ ap (colorOf (s .combiner)) e in
     c .with-color .ensures ∙ (λ i. covered (m i) (k i) (e i .a))
     ∙ taken _ _ _ (ap (shown (s .antialias)) (sym m) ∙ sym (c .before .before .before .before .is-shown .ensures) ∙ not-false _ (c .before .before .before .if1 .left))
 

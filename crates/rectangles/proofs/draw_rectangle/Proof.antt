@@ -35,7 +35,7 @@ draw-rows-requires c κs =
     let s = c .before .before .before .before .before .before .before .before .before .before .before .before .before in (
       (
         omega (arith, c .before .before .before .before .before .columns .ensures .to, b .right-in),
-        record { inked = s .pre .0 .1; color = c .before .before .before .before .before .before .before .color .ensures ∙ ap (colorOf (s .args .pen .combiner)) (c .before .before .before .before .before .before .before .before .full-shade .ensures) },
+        record { inked = s .pre .0 .1; color = c .before .before .before .before .before .before .before .color .ensures .1 ∙ ap (colorOf (s .args .pen .combiner)) (c .before .before .before .before .before .before .before .before .full-shade .ensures) },
       ),
       (c .before .before .before .full-columns .ensures, room-less (s .pre .1) (omega (arith, c .before .before .before .before .rows .ensures .to, b .bottom-in))),
     )
@@ -51,7 +51,7 @@ same-length-3 c = search needs
 
 returns : tie.Need-returns
 returns c =
-    rectangle-drawn _ _ _ _ _ _ (c .before .before .before .before .before .before .before .before .before .before .before .before .before .before .before .full-shade .ensures) (c .before .before .before .before .before .before .before .before .before .before .before .before .before .before .color .ensures) (c .before .before .before .before .before .before .before .before .before .before .before .before .before .scissor-area .ensures) (c .before .before .before .before .before .before .before .before .before .before .before .before .columns .ensures) (c .before .before .before .before .before .before .before .before .before .before .before .rows .ensures)
+    rectangle-drawn _ _ _ _ _ _ (c .before .before .before .before .before .before .before .before .before .before .before .before .before .before .before .full-shade .ensures) (c .before .before .before .before .before .before .before .before .before .before .before .before .before .before .color .ensures .1) (c .before .before .before .before .before .before .before .before .before .before .before .before .before .scissor-area .ensures) (c .before .before .before .before .before .before .before .before .before .before .before .before .columns .ensures) (c .before .before .before .before .before .before .before .before .before .before .before .rows .ensures)
     (c .before .before .before .before .before .before .draw-rows .ensures)
 
 pub draw-rectangle-spec : {M : Type 1} → statement M

@@ -1,6 +1,9 @@
 -- `selectors::alpha_abd` meets its contract: each arm gives the entry of `alphaABD` at its number, and the default arm is past the end. Assumes nothing.
 use Rattle.selectors.specs.declared.AlphaIn.the-variants as alpha
 use Rattle.selectors.specs.Combine.{alphaABD}
+use mathlib.Core.Path.{refl}
+use Rattle.selectors.specs.Inputs.{alphaNumber}
+use Rattle.selectors.proofs.Meant.{meant}
 use Rattle.selectors.proofs.Tables.{entry, rest}
 use Rattle.selectors.proofs.alpha_abd.Statement.{statement}
 use Rattle.selectors.proofs.alpha_abd.Tie as tie
@@ -10,11 +13,11 @@ unfolding alphaABD
 alpha-abd-spec =
     tie.close
     (tie.spec
-    (λ c. entry alphaABD alpha.Zero 3 (c .before .args .idx) (c .match .keys1))
-    (λ c. entry alphaABD alpha.Zero 3 (c .before .args .idx) (c .match .keys2))
-    (λ c. entry alphaABD alpha.Zero 3 (c .before .args .idx) (c .match .keys3))
-    (λ c. entry alphaABD alpha.Zero 3 (c .before .args .idx) (c .match .keys4))
-    (λ c. entry alphaABD alpha.Zero 3 (c .before .args .idx) (c .match .keys5))
-    (λ c. entry alphaABD alpha.Zero 3 (c .before .args .idx) (c .match .keys6))
-    (λ c. entry alphaABD alpha.Zero 3 (c .before .args .idx) (c .match .keys7))
-    (λ c. rest alphaABD alpha.Zero 3 (c .before .args .idx) (c .match .rest)))
+    (λ c. meant alphaNumber refl (entry alphaABD alpha.Zero 3 (c .before .args .idx) (c .match .keys1)))
+    (λ c. meant alphaNumber refl (entry alphaABD alpha.Zero 3 (c .before .args .idx) (c .match .keys2)))
+    (λ c. meant alphaNumber refl (entry alphaABD alpha.Zero 3 (c .before .args .idx) (c .match .keys3)))
+    (λ c. meant alphaNumber refl (entry alphaABD alpha.Zero 3 (c .before .args .idx) (c .match .keys4)))
+    (λ c. meant alphaNumber refl (entry alphaABD alpha.Zero 3 (c .before .args .idx) (c .match .keys5)))
+    (λ c. meant alphaNumber refl (entry alphaABD alpha.Zero 3 (c .before .args .idx) (c .match .keys6)))
+    (λ c. meant alphaNumber refl (entry alphaABD alpha.Zero 3 (c .before .args .idx) (c .match .keys7)))
+    (λ c. meant alphaNumber refl (rest alphaABD alpha.Zero 3 (c .before .args .idx) (c .match .rest))))

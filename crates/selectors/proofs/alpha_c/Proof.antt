@@ -1,6 +1,9 @@
 -- `selectors::alpha_c` meets its contract: each arm gives the entry of `alphaC` at its number, and the default arm is past the end. Assumes nothing.
 use Rattle.selectors.specs.declared.AlphaIn.the-variants as alpha
 use Rattle.selectors.specs.Combine.{alphaC}
+use mathlib.Core.Path.{refl}
+use Rattle.selectors.specs.Inputs.{alphaNumber}
+use Rattle.selectors.proofs.Meant.{meant}
 use Rattle.selectors.proofs.Tables.{entry, rest}
 use Rattle.selectors.proofs.alpha_c.Statement.{statement}
 use Rattle.selectors.proofs.alpha_c.Tie as tie
@@ -10,11 +13,11 @@ unfolding alphaC
 alpha-c-spec =
     tie.close
     (tie.spec
-    (λ c. entry alphaC alpha.Zero 3 (c .before .args .idx) (c .match .keys1))
-    (λ c. entry alphaC alpha.Zero 3 (c .before .args .idx) (c .match .keys2))
-    (λ c. entry alphaC alpha.Zero 3 (c .before .args .idx) (c .match .keys3))
-    (λ c. entry alphaC alpha.Zero 3 (c .before .args .idx) (c .match .keys4))
-    (λ c. entry alphaC alpha.Zero 3 (c .before .args .idx) (c .match .keys5))
-    (λ c. entry alphaC alpha.Zero 3 (c .before .args .idx) (c .match .keys6))
-    (λ c. entry alphaC alpha.Zero 3 (c .before .args .idx) (c .match .keys7))
-    (λ c. rest alphaC alpha.Zero 3 (c .before .args .idx) (c .match .rest)))
+    (λ c. meant alphaNumber refl (entry alphaC alpha.Zero 3 (c .before .args .idx) (c .match .keys1)))
+    (λ c. meant alphaNumber refl (entry alphaC alpha.Zero 3 (c .before .args .idx) (c .match .keys2)))
+    (λ c. meant alphaNumber refl (entry alphaC alpha.Zero 3 (c .before .args .idx) (c .match .keys3)))
+    (λ c. meant alphaNumber refl (entry alphaC alpha.Zero 3 (c .before .args .idx) (c .match .keys4)))
+    (λ c. meant alphaNumber refl (entry alphaC alpha.Zero 3 (c .before .args .idx) (c .match .keys5)))
+    (λ c. meant alphaNumber refl (entry alphaC alpha.Zero 3 (c .before .args .idx) (c .match .keys6)))
+    (λ c. meant alphaNumber refl (entry alphaC alpha.Zero 3 (c .before .args .idx) (c .match .keys7)))
+    (λ c. meant alphaNumber refl (rest alphaC alpha.Zero 3 (c .before .args .idx) (c .match .rest))))

@@ -1,6 +1,9 @@
 -- `selectors::color_b` meets its contract: each arm gives the entry of `colorB` at its number, and the default arm is past the end. Assumes nothing.
 use Rattle.selectors.specs.declared.ColorIn.the-variants as color
 use Rattle.selectors.specs.Combine.{colorB}
+use mathlib.Core.Path.{refl}
+use Rattle.selectors.specs.Inputs.{colorNumber}
+use Rattle.selectors.proofs.Meant.{meant}
 use Rattle.selectors.proofs.Tables.{entry, rest}
 use Rattle.selectors.proofs.color_b.Statement.{statement}
 use Rattle.selectors.proofs.color_b.Tie as tie
@@ -10,12 +13,12 @@ unfolding colorB
 color-b-spec =
     tie.close
     (tie.spec
-    (λ c. entry colorB color.Zero 4 (c .before .args .idx) (c .match .keys1))
-    (λ c. entry colorB color.Zero 4 (c .before .args .idx) (c .match .keys2))
-    (λ c. entry colorB color.Zero 4 (c .before .args .idx) (c .match .keys3))
-    (λ c. entry colorB color.Zero 4 (c .before .args .idx) (c .match .keys4))
-    (λ c. entry colorB color.Zero 4 (c .before .args .idx) (c .match .keys5))
-    (λ c. entry colorB color.Zero 4 (c .before .args .idx) (c .match .keys6))
-    (λ c. entry colorB color.Zero 4 (c .before .args .idx) (c .match .keys7))
-    (λ c. entry colorB color.Zero 4 (c .before .args .idx) (c .match .keys8))
-    (λ c. rest colorB color.Zero 4 (c .before .args .idx) (c .match .rest)))
+    (λ c. meant colorNumber refl (entry colorB color.Zero 4 (c .before .args .idx) (c .match .keys1)))
+    (λ c. meant colorNumber refl (entry colorB color.Zero 4 (c .before .args .idx) (c .match .keys2)))
+    (λ c. meant colorNumber refl (entry colorB color.Zero 4 (c .before .args .idx) (c .match .keys3)))
+    (λ c. meant colorNumber refl (entry colorB color.Zero 4 (c .before .args .idx) (c .match .keys4)))
+    (λ c. meant colorNumber refl (entry colorB color.Zero 4 (c .before .args .idx) (c .match .keys5)))
+    (λ c. meant colorNumber refl (entry colorB color.Zero 4 (c .before .args .idx) (c .match .keys6)))
+    (λ c. meant colorNumber refl (entry colorB color.Zero 4 (c .before .args .idx) (c .match .keys7)))
+    (λ c. meant colorNumber refl (entry colorB color.Zero 4 (c .before .args .idx) (c .match .keys8)))
+    (λ c. meant colorNumber refl (rest colorB color.Zero 4 (c .before .args .idx) (c .match .rest))))

@@ -1,6 +1,9 @@
 -- `selectors::color_c` meets its contract: each arm gives the entry of `colorC` at its number, and the default arm is past the end. Assumes nothing.
 use Rattle.selectors.specs.declared.ColorIn.the-variants as color
 use Rattle.selectors.specs.Combine.{colorC}
+use mathlib.Core.Path.{refl}
+use Rattle.selectors.specs.Inputs.{colorNumber}
+use Rattle.selectors.proofs.Meant.{meant}
 use Rattle.selectors.proofs.Tables.{entry, rest}
 use Rattle.selectors.proofs.color_c.Statement.{statement}
 use Rattle.selectors.proofs.color_c.Tie as tie
@@ -10,20 +13,20 @@ unfolding colorC
 color-c-spec =
     tie.close
     (tie.spec
-    (λ c. entry colorC color.Zero 5 (c .before .args .idx) (c .match .keys1))
-    (λ c. entry colorC color.Zero 5 (c .before .args .idx) (c .match .keys2))
-    (λ c. entry colorC color.Zero 5 (c .before .args .idx) (c .match .keys3))
-    (λ c. entry colorC color.Zero 5 (c .before .args .idx) (c .match .keys4))
-    (λ c. entry colorC color.Zero 5 (c .before .args .idx) (c .match .keys5))
-    (λ c. entry colorC color.Zero 5 (c .before .args .idx) (c .match .keys6))
-    (λ c. entry colorC color.Zero 5 (c .before .args .idx) (c .match .keys7))
-    (λ c. entry colorC color.Zero 5 (c .before .args .idx) (c .match .keys8))
-    (λ c. entry colorC color.Zero 5 (c .before .args .idx) (c .match .keys9))
-    (λ c. entry colorC color.Zero 5 (c .before .args .idx) (c .match .keys10))
-    (λ c. entry colorC color.Zero 5 (c .before .args .idx) (c .match .keys11))
-    (λ c. entry colorC color.Zero 5 (c .before .args .idx) (c .match .keys12))
-    (λ c. entry colorC color.Zero 5 (c .before .args .idx) (c .match .keys13))
-    (λ c. entry colorC color.Zero 5 (c .before .args .idx) (c .match .keys14))
-    (λ c. entry colorC color.Zero 5 (c .before .args .idx) (c .match .keys15))
-    (λ c. entry colorC color.Zero 5 (c .before .args .idx) (c .match .keys16))
-    (λ c. rest colorC color.Zero 5 (c .before .args .idx) (c .match .rest)))
+    (λ c. meant colorNumber refl (entry colorC color.Zero 5 (c .before .args .idx) (c .match .keys1)))
+    (λ c. meant colorNumber refl (entry colorC color.Zero 5 (c .before .args .idx) (c .match .keys2)))
+    (λ c. meant colorNumber refl (entry colorC color.Zero 5 (c .before .args .idx) (c .match .keys3)))
+    (λ c. meant colorNumber refl (entry colorC color.Zero 5 (c .before .args .idx) (c .match .keys4)))
+    (λ c. meant colorNumber refl (entry colorC color.Zero 5 (c .before .args .idx) (c .match .keys5)))
+    (λ c. meant colorNumber refl (entry colorC color.Zero 5 (c .before .args .idx) (c .match .keys6)))
+    (λ c. meant colorNumber refl (entry colorC color.Zero 5 (c .before .args .idx) (c .match .keys7)))
+    (λ c. meant colorNumber refl (entry colorC color.Zero 5 (c .before .args .idx) (c .match .keys8)))
+    (λ c. meant colorNumber refl (entry colorC color.Zero 5 (c .before .args .idx) (c .match .keys9)))
+    (λ c. meant colorNumber refl (entry colorC color.Zero 5 (c .before .args .idx) (c .match .keys10)))
+    (λ c. meant colorNumber refl (entry colorC color.Zero 5 (c .before .args .idx) (c .match .keys11)))
+    (λ c. meant colorNumber refl (entry colorC color.Zero 5 (c .before .args .idx) (c .match .keys12)))
+    (λ c. meant colorNumber refl (entry colorC color.Zero 5 (c .before .args .idx) (c .match .keys13)))
+    (λ c. meant colorNumber refl (entry colorC color.Zero 5 (c .before .args .idx) (c .match .keys14)))
+    (λ c. meant colorNumber refl (entry colorC color.Zero 5 (c .before .args .idx) (c .match .keys15)))
+    (λ c. meant colorNumber refl (entry colorC color.Zero 5 (c .before .args .idx) (c .match .keys16)))
+    (λ c. meant colorNumber refl (rest colorC color.Zero 5 (c .before .args .idx) (c .match .rest))))

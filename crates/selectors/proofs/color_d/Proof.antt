@@ -1,6 +1,9 @@
 -- `selectors::color_d` meets its contract: each arm gives the entry of `colorD` at its number, and the default arm is past the end. Assumes nothing.
 use Rattle.selectors.specs.declared.ColorIn.the-variants as color
 use Rattle.selectors.specs.Combine.{colorD}
+use mathlib.Core.Path.{refl}
+use Rattle.selectors.specs.Inputs.{colorNumber}
+use Rattle.selectors.proofs.Meant.{meant}
 use Rattle.selectors.proofs.Tables.{entry, rest}
 use Rattle.selectors.proofs.color_d.Statement.{statement}
 use Rattle.selectors.proofs.color_d.Tie as tie
@@ -10,11 +13,11 @@ unfolding colorD
 color-d-spec =
     tie.close
     (tie.spec
-    (λ c. entry colorD color.Zero 3 (c .before .args .idx) (c .match .keys1))
-    (λ c. entry colorD color.Zero 3 (c .before .args .idx) (c .match .keys2))
-    (λ c. entry colorD color.Zero 3 (c .before .args .idx) (c .match .keys3))
-    (λ c. entry colorD color.Zero 3 (c .before .args .idx) (c .match .keys4))
-    (λ c. entry colorD color.Zero 3 (c .before .args .idx) (c .match .keys5))
-    (λ c. entry colorD color.Zero 3 (c .before .args .idx) (c .match .keys6))
-    (λ c. entry colorD color.Zero 3 (c .before .args .idx) (c .match .keys7))
-    (λ c. rest colorD color.Zero 3 (c .before .args .idx) (c .match .rest)))
+    (λ c. meant colorNumber refl (entry colorD color.Zero 3 (c .before .args .idx) (c .match .keys1)))
+    (λ c. meant colorNumber refl (entry colorD color.Zero 3 (c .before .args .idx) (c .match .keys2)))
+    (λ c. meant colorNumber refl (entry colorD color.Zero 3 (c .before .args .idx) (c .match .keys3)))
+    (λ c. meant colorNumber refl (entry colorD color.Zero 3 (c .before .args .idx) (c .match .keys4)))
+    (λ c. meant colorNumber refl (entry colorD color.Zero 3 (c .before .args .idx) (c .match .keys5)))
+    (λ c. meant colorNumber refl (entry colorD color.Zero 3 (c .before .args .idx) (c .match .keys6)))
+    (λ c. meant colorNumber refl (entry colorD color.Zero 3 (c .before .args .idx) (c .match .keys7)))
+    (λ c. meant colorNumber refl (rest colorD color.Zero 3 (c .before .args .idx) (c .match .rest))))

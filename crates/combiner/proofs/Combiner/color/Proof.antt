@@ -2,6 +2,9 @@
 use mathlib.Core.Path.{_≡_, sym, _∙_}
 use Rattle.combiner.specs.declared.Input.the-variants.{Value}
 use Rattle.combiner.specs.Combine.{channelAt, alphaAt, joined, colorOf}
+use Rattle.combiner.specs.Means.{colorMeans}
+use Rattle.selectors.proofs.Meant.{meant}
+use Rattle.combiner.proofs.Means.{color-means}
 use borrow.Author.Needs.{needs}
 use Rattle.combiner.proofs.Combiner.color.Statement.{statement}
 use Rattle.combiner.proofs.Combiner.color.Tie as tie
@@ -30,7 +33,8 @@ unfolding colorOf joined
 returns c =
     let s = c .before .before .before .args in
     let p = sym (c .before .before .rgb .ensures) ∙ c .enum-told .given .1 in
-    λ i. joined (sym p i) (channelAt (s .self) (s .shade) 1) (channelAt (s .self) (s .shade) 2) (alphaAt (s .self) (s .shade))
+    meant colorMeans (color-means _ _)
+    (λ i. joined (sym p i) (channelAt (s .self) (s .shade) 1) (channelAt (s .self) (s .shade) 2) (alphaAt (s .self) (s .shade)))
 
 rgb-requires-2 : tie.Need-rgb-requires-2
 rgb-requires-2 c κs = search needs
@@ -47,7 +51,8 @@ returns-2 c =
     let w = c .before .before .before in
     let s = w .before .before .before .before .args in
     let p = sym (c .before .before .rgb2 .ensures) ∙ c .enum-told2 .given .1 in
-    λ i. joined (sym (red w) i) (sym p i) (channelAt (s .self) (s .shade) 2) (alphaAt (s .self) (s .shade))
+    meant colorMeans (color-means _ _)
+    (λ i. joined (sym (red w) i) (sym p i) (channelAt (s .self) (s .shade) 2) (alphaAt (s .self) (s .shade)))
 
 rgb-requires-3 : tie.Need-rgb-requires-3
 rgb-requires-3 c κs = search needs
@@ -65,7 +70,8 @@ returns-3 c =
     let w = v .before .before .before .before in
     let s = w .before .before .before .before .args in
     let p = sym (c .before .before .rgb3 .ensures) ∙ c .enum-told3 .given .1 in
-    λ i. joined (sym (red w) i) (sym (green v) i) (sym p i) (alphaAt (s .self) (s .shade))
+    meant colorMeans (color-means _ _)
+    (λ i. joined (sym (red w) i) (sym (green v) i) (sym p i) (alphaAt (s .self) (s .shade)))
 
 alpha-requires : tie.Need-alpha-requires
 alpha-requires c κs = search needs
@@ -82,7 +88,8 @@ returns-4 c =
     let u = c .before .before .before in
     let v = u .before .before .before .before in
     let p = sym (c .before .before .alpha .ensures) ∙ c .enum-told4 .given .1 in
-    λ i. joined (sym (red (v .before .before .before .before)) i) (sym (green v) i) (sym (blue u) i) (sym p i)
+    meant colorMeans (color-means _ _)
+    (λ i. joined (sym (red (v .before .before .before .before)) i) (sym (green v) i) (sym (blue u) i) (sym p i))
 
 returns-5 : tie.Need-returns-5
 unfolding colorOf joined
@@ -90,7 +97,8 @@ returns-5 c =
     let u = c .before .before .before .before in
     let v = u .before .before .before .before in
     let p = sym (c .before .before .before .alpha .ensures) ∙ c .before .a .given .1 in
-    λ i. joined (sym (red (v .before .before .before .before)) i) (sym (green v) i) (sym (blue u) i) (sym p i)
+    meant colorMeans (color-means _ _)
+    (λ i. joined (sym (red (v .before .before .before .before)) i) (sym (green v) i) (sym (blue u) i) (sym p i))
 
 pub color-spec : {M : Type 1} → statement M
 color-spec =

@@ -6,6 +6,9 @@ use borrow.Author.Tests.{eq-eqb, ne-eqb}
 use Rattle.combiner.specs.declared.Made.the-variants.{Without}
 use Rattle.combiner.specs.Combine.{colorOf, fullShade}
 use Rattle.combiner.specs.New.{plain, combinerOf, ifColored, newOf}
+use Rattle.combiner.specs.Means.{madeMeans}
+use Rattle.selectors.proofs.Meant.{meant}
+use Rattle.combiner.proofs.Means.{new-means}
 use borrow.Author.Needs.{needs}
 use Rattle.combiner.proofs.Combiner.new.Statement.{statement}
 use Rattle.combiner.proofs.Combiner.new.Tie as tie
@@ -14,7 +17,8 @@ returns : tie.Need-returns
 unfolding newOf
 returns c =
     let s = c .before .before .args in
-    λ i. cond (sym (ne-eqb (s .uniform .«tex_enable») 0 (c .if1 .taken)) i && plain (s .mode)) (ifColored (combinerOf (s .uniform)) (colorOf (combinerOf (s .uniform)) fullShade)) Without
+    meant madeMeans (new-means _ _)
+    (λ i. cond (sym (ne-eqb (s .uniform .«tex_enable») 0 (c .if1 .taken)) i && plain (s .mode)) (ifColored (combinerOf (s .uniform)) (colorOf (combinerOf (s .uniform)) fullShade)) Without)
 
 is-plain-requires : tie.Need-is-plain-requires
 is-plain-requires c κs = search needs
@@ -25,7 +29,8 @@ returns-2 c =
     let s = c .before .before .before .before .args in
     let e = eq-eqb (s .uniform .«tex_enable») 0 (c .before .before .if1 .left) in
     let p = sym (c .before .is-plain .ensures) ∙ sym (Bool·not-not (c .before .is-plain .result)) ∙ ap not (c .if2 .taken) in
-    λ i. cond (sym e i && sym p i) (ifColored (combinerOf (s .uniform)) (colorOf (combinerOf (s .uniform)) fullShade)) Without
+    meant madeMeans (new-means _ _)
+    (λ i. cond (sym e i && sym p i) (ifColored (combinerOf (s .uniform)) (colorOf (combinerOf (s .uniform)) fullShade)) Without)
 
 read-uniform-requires : tie.Need-read-uniform-requires
 read-uniform-requires c κs = search needs
@@ -54,19 +59,21 @@ opened k =
     λ i. e i && p i
 
 shown : (k : tie.After-color) → k .color .result ≡ colorOf (combinerOf (args-of k .args .uniform)) fullShade
-shown k = k .color .ensures ∙ (λ i. colorOf (k .before .before .read-uniform .ensures i) (k .before .full-shade .ensures i))
+shown k = k .color .ensures .1 ∙ (λ i. colorOf (k .before .before .read-uniform .ensures i) (k .before .full-shade .ensures i))
 
 returns-3 : tie.Need-returns-3
 unfolding newOf
 returns-3 c =
     let k = c .before .before in
-    λ i. cond (sym (opened k) i) (ifColored (combinerOf (args-of k .args .uniform)) (sym (sym (shown k) ∙ c .enum-told2 .given .1) i)) Without
+    meant madeMeans (new-means _ _)
+    (λ i. cond (sym (opened k) i) (ifColored (combinerOf (args-of k .args .uniform)) (sym (sym (shown k) ∙ c .enum-told2 .given .1) i)) Without)
 
 returns-4 : tie.Need-returns-4
 unfolding newOf
 returns-4 c =
     let k = c .before .before in
-    λ i. cond (sym (opened k) i) (ifColored (k .before .before .read-uniform .ensures i) (sym (sym (shown k) ∙ c .enum-told .given .1) i)) Without
+    meant madeMeans (new-means _ _)
+    (λ i. cond (sym (opened k) i) (ifColored (k .before .before .read-uniform .ensures i) (sym (sym (shown k) ∙ c .enum-told .given .1) i)) Without)
 
 pub new-spec : {M : Type 1} → statement M
 new-spec =

@@ -4,6 +4,9 @@ use mathlib.Core.Bool.{true, cond}
 use Rattle.combiner.specs.declared.Strict.the-variants.{Nothing}
 use Rattle.combiner.specs.Combine.{colorOf, fullShade}
 use Rattle.combiner.specs.Strict.{flat, wordOfColor, strictOf}
+use Rattle.combiner.specs.Means.{strictMeans}
+use Rattle.selectors.proofs.Meant.{meant}
+use Rattle.combiner.proofs.Means.{strict-means}
 use borrow.Author.Needs.{needs}
 use Rattle.combiner.proofs.Combiner.strict_color.Statement.{statement}
 use Rattle.combiner.proofs.Combiner.strict_color.Tie as tie
@@ -25,7 +28,7 @@ enum-told c = search needs
 
 -- the colour that the code took apart, and the test that it came by
 shown : (k : tie.After-color) → k .color .result ≡ colorOf (k .before .before .before .before .args .self) fullShade
-shown k = k .color .ensures ∙ ap (colorOf (k .before .before .before .before .args .self)) (k .before .full-shade .ensures)
+shown k = k .color .ensures .1 ∙ ap (colorOf (k .before .before .before .before .args .self)) (k .before .full-shade .ensures)
 
 opened : (k : tie.After-color) → flat (k .before .before .before .before .args .self .selectors) ≡ true
 opened k = sym (k .before .before .before .is-flat .ensures) ∙ k .before .before .if1 .taken
@@ -34,7 +37,8 @@ returns : tie.Need-returns
 unfolding strictOf
 returns c =
     let k = c .before .before in
-    λ i. cond (sym (opened k) i) (wordOfColor (sym (sym (shown k) ∙ c .enum-told .given .1) i)) Nothing
+    meant strictMeans (strict-means _)
+    (λ i. cond (sym (opened k) i) (wordOfColor (sym (sym (shown k) ∙ c .enum-told .given .1) i)) Nothing)
 
 strict-word-requires : tie.Need-strict-word-requires
 strict-word-requires c κs = search needs
@@ -43,13 +47,15 @@ returns-2 : tie.Need-returns-2
 unfolding strictOf
 returns-2 c =
     let k = c .before .before .before .before in
-    c .strict-word .ensures
-    ∙ (λ i. cond (sym (opened k) i) (wordOfColor (sym (sym (shown k) ∙ c .before .before .r .given .1) i)) Nothing)
+    meant strictMeans (strict-means _)
+    (c .strict-word .ensures
+    ∙ (λ i. cond (sym (opened k) i) (wordOfColor (sym (sym (shown k) ∙ c .before .before .r .given .1) i)) Nothing))
 
 returns-3 : tie.Need-returns-3
 unfolding strictOf
 returns-3 c =
-    λ i. cond (sym (sym (c .before .is-flat .ensures) ∙ c .if1 .left) i) (wordOfColor (colorOf (c .before .before .args .self) fullShade)) Nothing
+    meant strictMeans (strict-means _)
+    (λ i. cond (sym (sym (c .before .is-flat .ensures) ∙ c .if1 .left) i) (wordOfColor (colorOf (c .before .before .args .self) fullShade)) Nothing)
 
 pub strict-color-spec : {M : Type 1} → statement M
 strict-color-spec =

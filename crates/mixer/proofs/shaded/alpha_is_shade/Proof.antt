@@ -1,7 +1,7 @@
 -- `alpha_is_shade`: Shade's arm, and the arm of every other selector.
 use mathlib.Core.Path.{refl, sym, ap}
 use mathlib.Core.List.{[], _∷_}
-use Rattle.combiner.specs.Strict.{alphaNumber}
+use Rattle.selectors.specs.Inputs.{alphaNumber}
 use Rattle.mixer.specs.Shaded.{shadeAlpha}
 use Rattle.combiner.proofs.Tags.{others, alphas, alpha-one-of}
 use borrow.Author.Needs.{needs}

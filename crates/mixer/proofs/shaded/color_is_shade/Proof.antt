@@ -1,7 +1,7 @@
 -- `color_is_shade`: the arm of the two shade inputs, and the arm of every other selector.
 use mathlib.Core.Path.{refl}
 use mathlib.Core.List.{[], _∷_}
-use Rattle.combiner.specs.Strict.{colorNumber}
+use Rattle.selectors.specs.Inputs.{colorNumber}
 use Rattle.mixer.specs.Shaded.{shadeColor}
 use Rattle.combiner.proofs.Tags.{others, colors, color-one-of}
 use Rattle.mixer.proofs.shaded.color_is_shade.Statement.{statement}

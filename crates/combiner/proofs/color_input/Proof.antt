@@ -8,8 +8,8 @@ use Rattle.combiner.specs.declared.Input.the-variants.{Value}
 use Rattle.combiner.specs.Combine.{colorInput}
 use Rattle.combiner.proofs.Tags.{others, colors, color-one-of}
 use borrow.Author.Needs.{needs}
-use Rattle.combiner.proofs.Combiner.color_input.Statement.{statement}
-use Rattle.combiner.proofs.Combiner.color_input.Tie as tie
+use Rattle.combiner.proofs.color_input.Statement.{statement}
+use Rattle.combiner.proofs.color_input.Tie as tie
 
 enum-told : tie.Need-enum-told
 enum-told c = search needs
@@ -42,7 +42,7 @@ enum-told-7 : tie.Need-enum-told-7
 enum-told-7 c = search needs
 
 abbrev at : tie.Start → ColorIn → Input
-at s x = colorInput (s .args .self) x (s .args .shade) (s .args .channel)
+at s x = colorInput (s .args .combiner) x (s .args .shade) (s .args .channel)
 
 returns : tie.Need-returns
 unfolding ofBits colorInput colors

@@ -7,8 +7,8 @@ use Rattle.combiner.specs.declared.Input.{Input}
 use Rattle.combiner.specs.Combine.{alphaInput}
 use Rattle.combiner.proofs.Tags.{others, alphas, alpha-one-of}
 use borrow.Author.Needs.{needs}
-use Rattle.combiner.proofs.Combiner.alpha_input.Statement.{statement}
-use Rattle.combiner.proofs.Combiner.alpha_input.Tie as tie
+use Rattle.combiner.proofs.alpha_input.Statement.{statement}
+use Rattle.combiner.proofs.alpha_input.Tie as tie
 
 enum-told : tie.Need-enum-told
 enum-told c = search needs
@@ -23,7 +23,7 @@ enum-told-4 : tie.Need-enum-told-4
 enum-told-4 c = search needs
 
 abbrev at : tie.Start → AlphaIn → Input
-at s x = alphaInput (s .args .self) x (s .args .shade)
+at s x = alphaInput (s .args .combiner) x (s .args .shade)
 
 returns : tie.Need-returns
 unfolding ofBits alphaInput alphas
