@@ -12,7 +12,7 @@ void check_at(const char *file, int line, const char *what, uint64_t got, uint64
 /* Both as whole numbers. */
 #define CHECK(got, expected) check_at(__FILE__, __LINE__, #got, (uint64_t)(got), (uint64_t)(expected))
 
-/* A number and a value: document 01's, or wb_answer's of any call. */
+/* A number and a value, those of a call's wb_answer. */
 #define CHECK_ANSWER(call, expected_number, expected_value) \
     do { \
         wb_answer answer_ = (call); \

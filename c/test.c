@@ -1,6 +1,6 @@
 /*
- * The C interface, called from C: the layout of the header's structs, document 01's rules and the rows of its proved table, draws on a small frame, every number that a
- * call is turned away with, and then the recorded answers of the Rust original (recorded.c). What is expected is worked out from document 01 and the Rust, never
+ * The C interface, called from C: the layout of the header's structs, the rules of docs/RULES.md and its ten worked values, draws on a small frame, every number that
+ * a call is turned away with, and then the recorded answers of the Rust original (recorded.c). What is expected is worked out from these rules and the Rust, never
  * taken from the library. Valid as C11 and as C++11; run.sh builds and runs it as both.
  */
 #include "check.h"
@@ -92,7 +92,7 @@ static wb_combiner only(uint8_t color_d, uint8_t alpha_d) {
     return k;
 }
 
-/* The second cycle's words of the same: document 01's bits, with indices that name Zero in a, b and c. */
+/* The second cycle's words of the same, by their bits (docs/RULES.md, The combiner), with indices that name Zero in a, b and c. */
 static wb_uniform only_words(uint32_t color_d, uint32_t alpha_d) {
     wb_uniform u;
     memset(&u, 0, sizeof u);
@@ -405,7 +405,7 @@ static void raster(void) {
     float v[18];
     const uint8_t present[3] = {1, 1, 1}, missing[3] = {1, 0, 1};
     const uint32_t indices[3] = {0, 1, 2};
-    /* the thin triangle of document 01 */
+    /* the thin triangle of row 9 */
     set_vertex(v, 0.0f, 0.0f, grey(1.0f));
     set_vertex(v + 6, 0.125f, 0.25f, rgba(1.0f, 1.0f, 1.0f, 0.5f));
     set_vertex(v + 12, 1.0f, 2.0f, grey(1.0f));
@@ -709,7 +709,7 @@ static void refused_draws(void) {
     s.indices[2] = 3;
     CHECK_REFUSED(&s, 7);
 
-    /* several at once: the first in the order of document 01 is answered */
+    /* several at once: the first in the order of the numbers is answered */
     s = plain_scene();
     s.geometry = of_kind(WB_NO_GEOMETRY);
     s.uniform.tex_enable = 1;

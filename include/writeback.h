@@ -7,6 +7,9 @@
  * answers is proved: the contracts stand in crates/exports/src, the definitions that they cite in the specs/ of the crates below it. c/run.sh holds this file to those crates
  * and calls every function from C.
  *
+ * docs/RULES.md says in words what is answered and written: the frame and its marks, the pixels that a draw emits, rules F1 to F5 for each of them, words, and the
+ * numbers that a call is turned away with.
+ *
  * A number that an enum lacks stands for the enum's last case, but for a geometry's kind.
  */
 #ifndef WRITEBACK_H

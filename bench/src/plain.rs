@@ -1,4 +1,4 @@
-//! The original's side: document 01's frame over its `Combiner::new`, `admitted`, `rasterize`, `color_known`, `blend`,
+//! The original's side: the frame of docs/RULES.md over its `Combiner::new`, `admitted`, `rasterize`, `color_known`, `blend`,
 //! `destination` and `encode`.
 
 use crate::scenes::{Reads, Scene, Words, BIG_ENDIAN, FMT, SINGLE_READS, SIZ};

@@ -6,7 +6,7 @@
 //!
 //! Everything else in this folder stands in for files that are not there, or that would bring in the GPU, and is as
 //! small as the four files allow. Nothing of it takes part in an answer that is compared, but for:
-//! - `pack_depth` (render.rs): its source cannot be had. It is our reading of document 01.
+//! - `pack_depth` (render.rs): its source cannot be had. It is our reading of the rules (docs/RULES.md, Packing).
 //! - `ImageLayout` (render.rs) and `CombinerUniform` (render.rs): the fields alone.
 //! - `FramebufferEncoding` (below): the two cases alone.
 //!

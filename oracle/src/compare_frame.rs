@@ -186,7 +186,7 @@ impl Sum for Counts {
     }
 }
 
-/// How often each number of document 01's list came that the call has.
+/// How often each number came that the call has.
 fn numbers(counts: &[u64; 11], having: &[usize]) -> Vec<(String, u64)> {
     let all = ("compared".to_string(), counts.iter().sum());
     let each = having.iter().map(|number| (format!("with number {number}"), counts[*number]));

@@ -1,5 +1,5 @@
-//! The frame of document 01 over the original's functions: numbers 1 to 10, F1 to F5 and the word read. The frame is ours,
-//! so this is a second writing of the document, and not of the port.
+//! The frame of docs/RULES.md over the original's functions: numbers 1 to 10, F1 to F5 and the word read. The frame is ours,
+//! so this is a second writing of the rules, and not of the port.
 
 use crate::draws::{Draw, Frame, Read, Shape};
 use crate::library::{Answer, DrawAnswer};

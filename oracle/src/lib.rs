@@ -1,5 +1,5 @@
-//! The comparison of the port's library with the Rust original: the interface, the original behind it, document 01's frame
-//! over the original, the generators, and what is compared. The program is main.rs.
+//! The comparison of the port's library with the Rust original: the interface, the original behind it, the frame of
+//! docs/RULES.md over the original, the generators, and what is compared. The program is main.rs.
 #![deny(unsafe_code)]
 
 pub mod calls;

@@ -99,7 +99,7 @@ c_struct! {
 }
 
 c_struct! {
-    /// Document 01's number, and the value: a coverage, 1 for yes, a word, or bytes with the first lowest.
+    /// The number (docs/RULES.md), and the value: a coverage, 1 for yes, a word, or bytes with the first lowest.
     Answer { number: u32, value: u32, }
 }
 
@@ -114,7 +114,7 @@ c_struct! {
 }
 
 c_struct! {
-    /// Document 01's number, and how many pixels were emitted.
+    /// The number, and how many pixels were emitted.
     DrawAnswer { number: u32, pixels: u64, }
 }
 

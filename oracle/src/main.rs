@@ -15,7 +15,7 @@ use oracle::{
 };
 use std::process::ExitCode;
 
-// The native order of bytes is document 01's little-endian one.
+// The native order of bytes is the little-endian one (docs/RULES.md, Packing).
 const _: () = assert!(cfg!(target_endian = "little"));
 
 const SEED: u64 = 0x0064_0064;

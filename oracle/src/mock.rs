@@ -1,5 +1,5 @@
-//! A second writing of the interface from document 01, under the library's symbols: it tries the comparisons before there
-//! is a library. Where it can it goes another way than the original.
+//! A second writing of the interface from the rules (docs/RULES.md), under the library's symbols: it tries the
+//! comparisons before there is a library. Where it can it goes another way than the original.
 #![allow(clippy::manual_clamp, clippy::too_many_arguments)]
 
 use crate::library::*;

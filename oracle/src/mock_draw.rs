@@ -306,7 +306,7 @@ fn lists_number(scissor: Scissor, lists: Lists) -> u32 {
 }
 
 impl Slices<'_> {
-    /// Document 01's F1 and F2 as one rule: is everything known that the stored colour rests on?
+    /// F1 and F2 as one rule: is everything known that the stored colour rests on?
     fn known(&self, mode: Mode, alpha: f32, count: u8, p: usize) -> bool {
         let (colored, covered) = (self.marks[p] % 2 == 1, self.marks[p] >= 2);
         let (p_in, m_in, b_in) = (selector(mode, 14), selector(mode, 6), selector(mode, 2));

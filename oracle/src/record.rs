@@ -93,7 +93,7 @@ fn words(lines: &mut Vec<String>, inputs: &mut Inputs) {
     sample(lines, 160, || any_encode(inputs));
 }
 
-/// What the papers name: document 01's corners and rows of its table, and where other roundings differ.
+/// What the rules name (docs/RULES.md): corners and the worked values; and where other roundings differ.
 fn examples(lines: &mut Vec<String>) {
     for (a, b) in [(-0.0, 0.0), (0.0, -0.0), (f32::NAN, 0.0), (0.0, f32::NAN)] {
         lines.push(line(&LeTotal { a, b }));

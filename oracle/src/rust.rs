@@ -1,6 +1,6 @@
 //! What the Rust original answers to each call of the interface, under the interface's types.
 //!
-//! Number 11 of document 01 is ours and has no counterpart in the original: `refused` below states it, and the original
+//! Number 11 (docs/RULES.md) is ours and has no counterpart in the original: `refused` below states it, and the original
 //! is asked only within its domain. The roundings are expressions in the original and no functions: they stand here as
 //! they stand there, cut off where the interface cuts them off.
 

@@ -12,7 +12,7 @@ pub trait Words {
     /// Appends the value's words: a struct's fields in their order, a small number or a bool as one word.
     fn words(&self, sheet: &mut Sheet);
 
-    /// Whether document 01 takes the two for the same.
+    /// Whether the two count as the same: a NaN is equal to a NaN, and 0.0 to -0.0 (docs/RULES.md).
     fn alike(&self, other: &Self) -> bool;
 }
 

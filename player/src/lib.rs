@@ -4,7 +4,8 @@
 //! A [`Frame`] holds colours and coverages, with marks that say which are known. [`Frame::draw`] carries out a [`Draw`] on
 //! it; [`Frame::read_word`] answers a pixel as the game would read it from memory, and [`Frame::read_words`] many pixels at
 //! once. A call either succeeds or is turned away with a [`Refusal`], whose `Display` is one line for a log; then it changes
-//! nothing. No call panics, whatever it is given.
+//! nothing. No call panics, whatever it is given. docs/RULES.md of the repository has the rules: which pixels a draw emits,
+//! what each does to colours, coverages and marks (F1 to F5), how words are made, and the numbers of the refusals.
 //!
 //! ```
 //! use writeback::{AlphaIn, ColorIn, CombinerUniform, CycleSel, Draw, Frame, Geometry, Refusal, RenderMode, Writer};

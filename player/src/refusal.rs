@@ -1,4 +1,4 @@
-//! Why a call is turned away: document 01's numbers, and their reasons in plain words.
+//! Why a call is turned away: the numbers of docs/RULES.md, and their reasons in plain words.
 
 use std::error::Error;
 use std::fmt;
@@ -82,12 +82,12 @@ impl Refusal {
         }
     }
 
-    /// Document 01's number, never 0.
+    /// The number, never 0. docs/RULES.md of the repository has them all, and in which order a call checks them.
     pub const fn number(self) -> u32 {
         self.0
     }
 
-    /// Document 01's reason in plain words.
+    /// The reason in plain words.
     pub fn reason(self) -> &'static str {
         let reason = REASONS.iter().find(|(refusal, _)| *refusal == self);
         reason.map_or("the list of reasons lacks this number", |(_, reason)| reason)
