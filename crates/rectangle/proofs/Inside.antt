@@ -13,7 +13,7 @@ use Rattle.range.specs.Inner.{Inner}
 use Rattle.rectangle.specs.Rectangle.{quarters, withinOf, quarterBit}
 use Rattle.rectangle.specs.Window.{Filled}
 
-both-true : (a b : Bool) → a && b ≡ true → (a ≡ true) × (b ≡ true)
+pub both-true : (a b : Bool) → a && b ≡ true → (a ≡ true) × (b ≡ true)
 both-true true b e = (refl, e)
 both-true false b e = absurd (true≢false (sym e))
 

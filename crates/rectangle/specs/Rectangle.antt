@@ -3,6 +3,7 @@
 -- Programming Manual, coverage). Here row `sub` of four has a left sample, k = 0, and a right one, k = 1. Definitions only.
 use Prim.Native.Nat.{ℕ, _+_, _-_, _*_, _%_, _^_}
 use mathlib.Core.Bool.{Bool, false, cond, _&&_}
+use lib.Bits.{bitOr}
 use lib.IntN.{negsuc}
 use lib.Ieee.{Float, fin, le, lt}
 use Rattle.rectangle.specs.declared.Sides.{Sides}
@@ -45,14 +46,25 @@ rectMask s x y = rowBits s x y 0 + rowBits s x y 1 + rowBits s x y 2 + rowBits s
 unfoldable pub quarterBit : Float → Float → ℕ → ℕ → ℕ
 quarterBit low high n q = cond (withinOf low high (quarters (n * 4 + q))) 1 0
 
--- the bits of the samples of column x between left and right. Rows 0 and 2 have samples at quarters 0 and 2, rows 1 and 3 at quarters 1 and 3
+-- `v << k` of a byte
+abbrev pub shl8 : ℕ → ℕ → ℕ
+shl8 v k = (v * 2 ^ k) % 2 ^ 8
+
+-- four bits at places a, b, c and 0 of a byte, and once more `apart` places above
+abbrev pub placedAt : ℕ → ℕ → ℕ → ℕ → ℕ → ℕ → ℕ → ℕ → ℕ
+placedAt a b c apart p q r s =
+    let lower = bitOr (bitOr (bitOr (shl8 p a) (shl8 q b)) (shl8 r c)) s in
+    bitOr (shl8 lower apart) lower
+
+-- the bits of the samples of column x between left and right. Quarters 0 and 2 are the left and right samples of rows 0 and 2, with bits 7 and 6 and bits 3
+-- and 2; quarters 1 and 3 are those of rows 1 and 3, with bits 5 and 4 and bits 1 and 0
 unfoldable pub bitsOfColumn : Sides → ℕ → ℕ
 bitsOfColumn s x =
     let q : ℕ → ℕ = quarterBit (s .left) (s .right) x in
-    17 * (8 * q 0 + 4 * q 2 + 2 * q 1 + q 3)
+    placedAt 3 1 2 4 (q 0) (q 1) (q 2) (q 3)
 
--- the bits of the samples of row y between top and bottom: both samples of each of its four rows
+-- the bits of the samples of row y between top and bottom: quarter q is both samples of its row q
 unfoldable pub bitsOfRow : Sides → ℕ → ℕ
 bitsOfRow s y =
     let q : ℕ → ℕ = quarterBit (s .top) (s .bottom) y in
-    3 * (64 * q 0 + 16 * q 1 + 4 * q 2 + q 3)
+    placedAt 6 4 2 1 (q 0) (q 1) (q 2) (q 3)

@@ -1,8 +1,8 @@
 // The rectangle of writeback.rs `rasterize`: which of a pixel's eight samples it holds, and which columns and rows it can
 // touch. A side is any f32, a NaN or an infinity too.
 ghost use mathlib.Core.Path.{_≡_};
-ghost use Prim.Native.Nat.{_+_, _*_, _<_, _≤_, min, max};
-ghost use Rattle.rectangle.specs.Rectangle.{withinOf, rectMask, quarterBit, bitsOfColumn, bitsOfRow};
+ghost use Prim.Native.Nat.{_<_, _≤_, min, max};
+ghost use Rattle.rectangle.specs.Rectangle.{withinOf, rectMask, quarterBit, placedAt, bitsOfColumn, bitsOfRow};
 ghost use Rattle.rectangle.specs.Window.{Untouched, EmptyColumn, EmptyRow, Filled, FullColumn};
 ghost use Rattle.range.specs.Kept.{Kept};
 ghost use Rattle.range.specs.Inner.{Inner};
@@ -34,16 +34,18 @@ fn quarter(low: f32, high: f32, n: u32, q: u32) -> u8
     within(low, high, p) as u8
 }
 
-// The quarters of pixel n of an axis that lie in low..high, by their weights; the last one's is 1.
-fn weighed(low: f32, high: f32, n: u32, a: u8, b: u8, c: u8, times: u8) -> u8
-    requires { ⌜ (n < 1024) × (a + b + c < 255) × ((a + b + c + 1) * times < 256) ⌝ }
-    ensures { λ r. ⌜ r ≡ (quarterBit low high n 0 * a + quarterBit low high n 1 * b + quarterBit low high n 2 * c + quarterBit low high n 3) * times ⌝ }
+// The quarters of pixel n of an axis that lie in low..high, as bits of a mask. A quarter has two samples: the lower bits are a, b and c for the first
+// three and 0 for the last, and the upper ones lie `apart` above them.
+fn placed(low: f32, high: f32, n: u32, a: u8, b: u8, c: u8, apart: u8) -> u8
+    requires { ⌜ (n < 1024) × (a < 8) × (b < 8) × (c < 8) × (apart < 8) ⌝ }
+    ensures { λ r. ⌜ r ≡ placedAt a b c apart (quarterBit low high n 0) (quarterBit low high n 1) (quarterBit low high n 2) (quarterBit low high n 3) ⌝ }
 {
     let p = quarter(low, high, n, 0);
     let q = quarter(low, high, n, 1);
     let r = quarter(low, high, n, 2);
     let s = quarter(low, high, n, 3);
-    (p * a + q * b + r * c + s) * times
+    let lower = (p << a) | (q << b) | (r << c) | s;
+    (lower << apart) | lower
 }
 
 // n, but at least a and at most b.
@@ -98,7 +100,7 @@ impl Sides {
         requires { ⌜ x < 1024 ⌝ }
         ensures { λ r. ⌜ r ≡ bitsOfColumn self x ⌝ }
     {
-        weighed(self.left, self.right, x, 8, 2, 4, 17)
+        placed(self.left, self.right, x, 3, 1, 2, 4)
     }
 
     // The samples of row y that lie between the top and bottom sides.
@@ -106,7 +108,7 @@ impl Sides {
         requires { ⌜ y < 1024 ⌝ }
         ensures { λ r. ⌜ r ≡ bitsOfRow self y ⌝ }
     {
-        weighed(self.top, self.bottom, y, 64, 16, 4, 3)
+        placed(self.top, self.bottom, y, 6, 4, 2, 1)
     }
 
     // The eight samples of pixel (x, y). Bit 7 is row 0's left one.
