@@ -6,9 +6,11 @@ use borrow.Author.Tests.{eqb-true}
 use lib.Count.{ones}
 use lib.Dec.{eqb}
 use lib.IntN.{ℤ, pos, negsuc}
-use lib.Ieee.{lt, le, mul, add, sub, div, ofInt}
+use lib.Ieee.{lt, le, ne, mul, add, sub, div, ofInt}
 use Rattle.bits.specs.Field.{field}
-use Rattle.selectors.specs.Combine.{cycle1, select, command}
+use Rattle.selectors.specs.Combine.{cycle1, select, command, colorA, colorB, colorC, colorD, alphaABD, alphaC}
+use Rattle.combiner.specs.Combine.{colorInput, alphaInput, mixed, channelAt, alphaAt, joined, colorOf}
+use Rattle.combiner.specs.New.{compares, blendsColor, plain, combinerOf, newOf}
 use Rattle.blender.specs.Mux.{muxOf}
 use Rattle.blender.specs.Coverage.{blends, clampOf, destinationOf}
 use Rattle.blender.specs.Known.{reject, alone}
@@ -17,11 +19,18 @@ use Rattle.pack.specs.Color.{packChannelOf}
 use Rattle.pack.specs.Depth.{lastFrom, rangeOf, depthWord, depthOf, packDepthOf}
 use Rattle.vertex.specs.Sorted.{atOrBefore, insert, sorted}
 use Rattle.edge.specs.Edge.{quantized, edgeAt, crossOf}
-use Rattle.edges.specs.Edge.{slopeOf, edgeStart, edgeFrom}
+use Rattle.edges.specs.Edge.{slopeOf, areaBy, edgeStart, edgeFrom}
 use Rattle.edge.specs.Span.{spanOf}
 use Rattle.edges.specs.Span.{triBy, lineOf, edgesOf}
 use Rattle.edges.specs.Sample.{twoOf, pairOf, maskOf}
 use Rattle.rectangle.specs.Rectangle.{insideOf, sampleBit, rowBits, rectMask}
+use Rattle.checks.specs.Check.{lookedUp, usesShade, checkOf}
+use Rattle.raster.specs.Parts.{parts}
+use Rattle.raster.specs.Admitted.{triangleAt, failing, all, admittedOf}
+use Rattle.raster.specs.Emitted.{triangleFragment, triangleEmits, rectangleFragment, rectangleEmits}
+use Rattle.frame.specs.Checks.{markOk, marksOk, frameRefusal}
+use Rattle.draw.specs.Checks.{scissorOk, flagsOk, inputsOk, entryRefusal}
+use Rattle.draw.specs.Draw.{planOf, drawAnswer}
 use Rattle.table.specs.Table.{Entry, table, Holds}
 
 same : ℤ → ℤ → Bool
@@ -55,7 +64,7 @@ holds [] t = tt
 holds (e ∷ es) t = (same-eq (e .value) (e .is) (left (same (e .value) (e .is)) (test es) t), holds es (right (same (e .value) (e .is)) (test es) t))
 
 computed : test table ≡ true
-unfolding test same table ones lt le mul add sub div ofInt field cycle1 select command muxOf blends clampOf destinationOf reject alone factorB mixedOf bytesOf blendOf packChannelOf lastFrom rangeOf depthWord depthOf packDepthOf atOrBefore insert sorted quantized slopeOf edgeStart edgeFrom edgeAt crossOf triBy spanOf lineOf edgesOf twoOf pairOf maskOf insideOf sampleBit rowBits rectMask
+unfolding test same table ones lt le ne mul add sub div ofInt field cycle1 select command colorA colorB colorC colorD alphaABD alphaC muxOf blends clampOf destinationOf reject alone factorB mixedOf bytesOf blendOf packChannelOf lastFrom rangeOf depthWord depthOf packDepthOf atOrBefore insert sorted quantized slopeOf edgeStart edgeFrom edgeAt crossOf triBy spanOf lineOf edgesOf twoOf pairOf maskOf insideOf sampleBit rowBits rectMask colorInput alphaInput mixed channelAt alphaAt joined colorOf compares blendsColor plain combinerOf newOf areaBy lookedUp usesShade checkOf parts triangleAt failing all admittedOf triangleFragment triangleEmits rectangleFragment rectangleEmits markOk marksOk frameRefusal scissorOk flagsOk inputsOk entryRefusal planOf drawAnswer
 computed = refl
 
 -- Every row of document 01's proved table holds of the definitions.

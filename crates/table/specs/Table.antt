@@ -5,8 +5,10 @@ use mathlib.Core.Bool.{Bool, true, false}
 use mathlib.Core.List.{List, [], _∷_, map}
 use lib.IntN.{ℤ, pos, negsuc, negℤ}
 use lib.Ieee.{Float, fin}
+use lib.ListN.{length, replicate}
 use Rattle.num.specs.Color.{f0, f1}
 use Rattle.mode.specs.declared.RenderMode.{RenderMode}
+use Rattle.mode.specs.declared.CombinerUniform.{CombinerUniform}
 use Rattle.mode.specs.declared.Rgba.{Rgba}
 use Rattle.mode.specs.declared.BlendClass.the-variants.{Replace}
 use Rattle.mode.specs.declared.ZMode.the-variants.{Opa}
@@ -27,7 +29,11 @@ use Rattle.edges.specs.Span.{triOf, edgesOf}
 use Rattle.edges.specs.Sample.{maskOf, countOf}
 use Rattle.rectangle.specs.declared.Sides.{Sides}
 use Rattle.rectangle.specs.Rectangle.{rectMask}
-use Rattle.raster.specs.Emitted.{shown, cornerOf}
+use Rattle.raster.specs.declared.Geometry.{Geometry}
+use Rattle.raster.specs.declared.Geometry.the-variants.{Triangles, Rectangle}
+use Rattle.raster.specs.Emitted.{Emit, cornerOf}
+use Rattle.frame.specs.Frame.{Frame, frameOf}
+use Rattle.draw.specs.Draw.{DrawArgs, drawArgs, Plan, planOf, drawAnswer}
 
 -- a row of the paper, a value of the definitions, and what it must be
 pub record Entry : Type 0 where
@@ -96,6 +102,86 @@ thin = at f0 f0 ∷ at (parts 1 3) (parts 1 2) ∷ at f1 (fin false 1 (pos 1)) �
 abbrev pub sides : Sides
 sides = record { left = parts 1 2; top = f0; right = f1; bottom = f1 }
 
+-- ---- the draws of rows 8 and 9, over a frame of 2 by 2 pixels of which nothing is known
+
+-- no texture, and selectors that give a colour
+abbrev pub uniform : CombinerUniform
+uniform =
+    record {
+      «combine_l» = 0;
+      «combine_h» = 0;
+      «cycle_type» = 0;
+      «tex_enable» = 0;
+      «blender_mux» = 0;
+      «force_blend» = 0;
+      «alpha_flags» = 0;
+      «alpha_threshold» = f0;
+      prim = grey f0;
+      env = grey f0;
+      «blend_color» = grey f0;
+      «fog_color» = grey f0;
+      «inv_tex_size» = replicate 4 f0;
+      «inv_tex1_size» = replicate 4 f0;
+      «lod_params» = replicate 4 f0;
+      «inv_detail_size» = replicate 4 f0;
+      frame = replicate 4 0;
+      «is_rect» = 0;
+      «coverage_slot» = 0;
+      «fill_word» = 0;
+      «fill_siz» = 0;
+      «primitive_depth» = replicate 4 0;
+      «native_scale» = replicate 4 f0;
+      raster = replicate 4 0;
+    }
+
+-- cull is off, and the scissor is the frame
+abbrev pub draw : Bool → Geometry → List Float → List ℕ → List ℕ → DrawArgs
+draw antialias geometry vertices present indices =
+    drawArgs (mode 0 false antialias 0) uniform false (record { left = 0; top = 0; width = 2; height = 2 }) geometry vertices present indices
+
+abbrev pub drawSides : Bool → DrawArgs
+drawSides antialias = draw antialias (Rectangle (sides .left) (sides .top) (sides .right) (sides .bottom)) [] [] []
+
+-- vertices as a draw carries them
+abbrev pub floats : List Vertex → List Float
+floats [] = []
+floats (v ∷ vs) = v .x ∷ v .y ∷ v .r ∷ v .g ∷ v .b ∷ v .a ∷ floats vs
+
+abbrev pub drawThin : Bool → DrawArgs
+drawThin antialias = draw antialias Triangles (floats thin) (1 ∷ 1 ∷ 1 ∷ []) (0 ∷ 1 ∷ 2 ∷ [])
+
+abbrev pub unknown : Frame
+unknown = frameOf (replicate 12 0) (replicate 4 0) (replicate 4 0)
+
+-- the number that a draw is answered with: 0 where it is carried out
+abbrev pub number : DrawArgs → ℤ
+number d = pos (drawAnswer d 2 2 unknown .number)
+
+-- the pixels that it emits
+abbrev pub planned : Plan → List Emit
+planned (Plan.refuse n) = []
+planned (Plan.accept k es) = es
+
+abbrev pub emitted : DrawArgs → List Emit
+emitted d = planned (planOf d 2 2 unknown)
+
+abbrev pub count : DrawArgs → ℤ
+count d = pos (length (emitted d))
+
+-- the number, the mask and the samples of the first of them; -1 where there is none
+abbrev pub ofFirst : (Emit → ℕ) → List Emit → ℤ
+ofFirst f [] = negsuc 0
+ofFirst f (e ∷ es) = pos (f e)
+
+abbrev pub pixel : DrawArgs → ℤ
+pixel d = ofFirst (λ e. e .pixel) (emitted d)
+
+abbrev pub mask : DrawArgs → ℤ
+mask d = ofFirst (λ e. e .mask) (emitted d)
+
+abbrev pub samples : DrawArgs → ℤ
+samples d = ofFirst (λ e. countOf (e .mask)) (emitted d)
+
 -- ---- the table
 unfoldable pub table : List Entry
 table =
@@ -124,11 +210,22 @@ table =
     ∷ entry 7 (pos (packDepthOf f1)) (pos 0xfffc)
     -- rectangle sides 0.25, 0, 1, 1 give pixel 0 mask 77 hexadecimal, six samples; without antialias it is not emitted
     ∷ entry 8 (pos (rectMask sides 0 0)) (pos 0x77)
-    ∷ entry 8 (pos (countOf (rectMask sides 0 0))) (pos 6)
-    ∷ entry 8 (yes (shown true (rectMask sides 0 0))) (pos 1)
-    ∷ entry 8 (yes (shown false (rectMask sides 0 0))) (pos 0)
-    -- the thin triangle gives mask 40 hexadecimal at pixel (0, 1)
+    ∷ entry 8 (number (drawSides true)) (pos 0)
+    ∷ entry 8 (count (drawSides true)) (pos 1)
+    ∷ entry 8 (pixel (drawSides true)) (pos 0)
+    ∷ entry 8 (mask (drawSides true)) (pos 0x77)
+    ∷ entry 8 (samples (drawSides true)) (pos 6)
+    ∷ entry 8 (number (drawSides false)) (pos 0)
+    ∷ entry 8 (count (drawSides false)) (pos 0)
+    -- the thin triangle gives mask 40 hexadecimal, one sample, at pixel (0, 1), which is pixel 2; without antialias it is not emitted
     ∷ entry 9 (pos (maskOf (edgesOf (triOf (map cornerOf (sorted thin))) 1) 0)) (pos 0x40)
+    ∷ entry 9 (number (drawThin true)) (pos 0)
+    ∷ entry 9 (count (drawThin true)) (pos 1)
+    ∷ entry 9 (pixel (drawThin true)) (pos 2)
+    ∷ entry 9 (mask (drawThin true)) (pos 0x40)
+    ∷ entry 9 (samples (drawThin true)) (pos 1)
+    ∷ entry 9 (number (drawThin false)) (pos 0)
+    ∷ entry 9 (count (drawThin false)) (pos 0)
     -- unblended 0.5 becomes byte 128
     ∷ entry 10 (pos (blendOf (mode 0 false false 0) combiner (grey (parts 1 1)) (grey f0) f1 8 7 .r)) (pos 128)
     ∷ []
