@@ -1,5 +1,5 @@
 -- The rules read the mark byte, and a byte only where it is marked; an unmarked byte is at most kept. So two alike pixels are alike after a step. Mark 1 is
--- then as F1 and F2 say, and a known coverage keeps its three bits. Assumes nothing.
+-- then as F1 and F2 say, the mark is not above the highest, and a known coverage keeps its three bits. Assumes nothing.
 use Prim.Native.Nat.{ℕ, _-_, _≤_}
 use mathlib.Core.Path.{_≡_, refl, sym, ap, ap₂, _∙_}
 use mathlib.Core.Bool.{Bool, true, false, cond, not, _&&_}
@@ -13,7 +13,7 @@ use Rattle.blender.proofs.Range.{destination-le}
 use Rattle.cell.specs.declared.Cell.{Cell}
 use Rattle.cell.specs.declared.Colors.{Colors}
 use Rattle.cell.specs.declared.Source.{Source}
-use Rattle.cell.specs.Marks.{colorMarked, coverageMarked, coverageOf, markOf}
+use Rattle.cell.specs.Marks.{highestMark, colorMarked, coverageMarked, coverageOf, markOf}
 use Rattle.cell.specs.Rules.{ruleF1, ruleF2, verdictOf, memoryOf, orZero, ruleF3, ruleF4, freshCoverage, ruleF5, coverageByte, cellStep}
 use Rattle.cell.specs.Alike.{AlikeCell}
 
@@ -118,7 +118,20 @@ cell-alike mode k s x y h =
         on-yes (ruleF4 x) (ruleF4 y) (sym (color-of-mark yes after) ∙ t) (ap (ruleF3 mode k s coverage) (same-memory h))
         ∙ ap₂ (λ (b : Bool) (c : Coverage). colorsOf mode k s b c y) same-marked (same-coverage h)
 
--- ---- a known coverage stays below 8
+-- ---- a mark stays at most the highest, and a known coverage below 8
+mark-le : (yes : Bool) (c : Coverage) → markOf yes c ≤ highestMark
+unfolding markOf
+mark-le true Unknown = omega arith
+mark-le true (Known c) = omega arith
+mark-le false Unknown = omega arith
+mark-le false (Known c) = omega arith
+
+pub mark-after : (mode : RenderMode) (k : Combiner) (s : Source) (x : Cell) → cellStep mode k s x .mark ≤ highestMark
+unfolding cellStep
+mark-after mode k s x =
+    let coverage = coverageOf (x .mark) (x .coverage) in
+    mark-le (verdictOf mode s coverage (colorMarked (x .mark))) (ruleF5 mode (s .count) coverage)
+
 fresh-le : (mode : RenderMode) (n : ℕ) → n ≤ 8 → orZero (freshCoverage mode n) ≤ 7
 unfolding freshCoverage
 fresh-le mode n h = go (eqb (mode .«cvg_dst») 2) (eqb (mode .«cvg_dst») 0 && not (mode .«force_blend») && not (mode .antialias))

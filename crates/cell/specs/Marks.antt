@@ -6,6 +6,10 @@ use lib.Dec.{leb, eqb}
 use Rattle.blender.specs.declared.Coverage.{Coverage}
 use Rattle.blender.specs.declared.Coverage.the-variants.{Unknown, Known}
 
+-- the highest mark byte: number 3 turns a frame with a higher one away
+abbrev pub highestMark : ℕ
+highestMark = 3
+
 abbrev pub colorMarked : ℕ → Bool
 colorMarked mark = eqb (mark % 2) 1
 

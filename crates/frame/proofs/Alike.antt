@@ -11,7 +11,7 @@ use lib.Dec.{leb}
 use lib.ListN.{length, getD, set, length-set}
 use lib.Seq.{getD-set-other}
 use Rattle.cell.specs.declared.Cell.{Cell}
-use Rattle.cell.specs.Marks.{colorMarked, coverageMarked}
+use Rattle.cell.specs.Marks.{highestMark, colorMarked, coverageMarked}
 use Rattle.cell.specs.Alike.{AlikeCell}
 use Rattle.cell.proofs.Alike.{never}
 use Rattle.frame.specs.Frame.{Frame, cellAt, putCell}
@@ -119,7 +119,7 @@ module _ (f g : Frame) (p : ℕ) (x y : Cell) (h : Alike f g) (c : AlikeCell x y
 -- ---- numbers 1 to 3 look at lengths, at marks and at known coverages
 mark-same : (m c d : ℕ) → (coverageMarked m ≡ true → c ≡ d) → markOk m c ≡ markOk m d
 unfolding markOk
-mark-same m c d h = ap (λ (t : Bool). leb m 3 && t) (go (coverageMarked m) h)
+mark-same m c d h = ap (λ (t : Bool). leb m highestMark && t) (go (coverageMarked m) h)
   where
     go : (b : Bool) → (b ≡ true → c ≡ d) → (not b || leb c 7) ≡ (not b || leb d 7)
     go true h = ap (λ (k : ℕ). leb k 7) (h refl)

@@ -10,7 +10,7 @@ use borrow.Author.Tests.{leb-true, le-leb, lt-leb, eqb-true}
 use lib.Dec.{leb, eqb}
 use lib.ListN.{length, getD, take, drop, drop-of-length-le}
 use lib.Seq.{drop-cons, drop-drop}
-use Rattle.cell.specs.Marks.{coverageMarked}
+use Rattle.cell.specs.Marks.{highestMark, coverageMarked}
 use Rattle.frame.specs.Frame.{Frame}
 use Rattle.frame.specs.Checks.{sizeOk, sizesOk, lengthsOk, markOk, marksOk, every, atMost, frameRefusal}
 use Rattle.frame.proofs.Fits.{both-left, both-right, pixels-le}
@@ -79,12 +79,12 @@ module _ (cs ms : List ℕ) where
       marks-parts (e - s) (drop s cs) (drop s ms) ∙ simp (drop-drop, k)
 
 -- ---- what the marks alone say of number 3
-pub marks-high : (cs ms : List ℕ) → length cs ≡ length ms → every (atMost 3) ms ≡ false → false ≡ marksOk cs ms
+pub marks-high : (cs ms : List ℕ) → length cs ≡ length ms → every (atMost highestMark) ms ≡ false → false ≡ marksOk cs ms
 unfolding every marksOk markOk
 marks-high [] [] e p = sym p
 marks-high [] (m ∷ ms) e p = absurd (omega arith)
 marks-high (c ∷ cs) [] e p = absurd (omega arith)
-marks-high (c ∷ cs) (m ∷ ms) e p = go (leb m 3) (not (coverageMarked m) || leb c 7) (every (atMost 3) ms) (marksOk cs ms) (marks-high cs ms (omega arith)) p
+marks-high (c ∷ cs) (m ∷ ms) e p = go (leb m highestMark) (not (coverageMarked m) || leb c 7) (every (atMost highestMark) ms) (marksOk cs ms) (marks-high cs ms (omega arith)) p
   where
     go : (a x r s : Bool) → (r ≡ false → false ≡ s) → (a && r) ≡ false → false ≡ ((a && x) && s)
     go false x r s h q = refl
@@ -97,20 +97,20 @@ marks-unmarked [] ms p = refl
 marks-unmarked (c ∷ cs) [] p = refl
 marks-unmarked (c ∷ cs) (m ∷ ms) p =
     let l : m ≤ 1 = leb-true m 1 (both-left (leb m 1) (every (atMost 1) ms) p) in
-    let a : leb m 3 ≡ true = le-leb m 3 (omega arith) in
+    let a : leb m highestMark ≡ true = le-leb m highestMark (omega arith) in
     let b : coverageMarked m ≡ false = lt-leb 2 (m % 4) (omega arith) in
     λ i. (sym a i && (not (sym b i) || leb c 7)) && marks-unmarked cs ms (both-right (leb m 1) (every (atMost 1) ms) p) i
 
 pub marks-marked :
-    (cs ms : List ℕ) → length cs ≡ length ms → every (atMost 3) ms ≡ true → every coverageMarked ms ≡ true → every (atMost 7) cs ≡ marksOk cs ms
+    (cs ms : List ℕ) → length cs ≡ length ms → every (atMost highestMark) ms ≡ true → every coverageMarked ms ≡ true → every (atMost 7) cs ≡ marksOk cs ms
 unfolding every marksOk markOk
 marks-marked [] [] e p q = refl
 marks-marked [] (m ∷ ms) e p q = absurd (omega arith)
 marks-marked (c ∷ cs) [] e p q = absurd (omega arith)
 marks-marked (c ∷ cs) (m ∷ ms) e p q =
-    let a = leb m 3 in
+    let a = leb m highestMark in
     let b = coverageMarked m in
-    let r = every (atMost 3) ms in
+    let r = every (atMost highestMark) ms in
     let s = every coverageMarked ms in
     λ i. (sym (both-left a r p) i && (not (sym (both-left b s q) i) || leb c 7)) && marks-marked cs ms (omega arith) (both-right a r p) (both-right b s q) i
 

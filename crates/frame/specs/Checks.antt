@@ -5,7 +5,7 @@ use mathlib.Core.Bool.{Bool, true, false, cond, not, _&&_, _||_}
 use mathlib.Core.List.{List, [], _∷_}
 use lib.Dec.{leb, eqb}
 use lib.ListN.{length}
-use Rattle.cell.specs.Marks.{coverageMarked}
+use Rattle.cell.specs.Marks.{highestMark, coverageMarked}
 use Rattle.frame.specs.declared.checks.Told.{Told}
 use Rattle.frame.specs.declared.checks.Told.the-variants.{Good, Bad, Mixed}
 use Rattle.frame.specs.Frame.{Frame}
@@ -21,9 +21,9 @@ sizesOk w h = sizeOk w && sizeOk h
 abbrev pub lengthsOk : Frame → ℕ → Bool
 lengthsOk f n = eqb (length (f .colors)) (3 * n) && (eqb (length (f .coverages)) n && eqb (length (f .marks)) n)
 
--- 3: a mark is at most 3, and a coverage that is marked known at most 7. An unmarked coverage is not looked at
+-- 3: a mark is at most the highest, and a coverage that is marked known at most 7. An unmarked coverage is not looked at
 unfoldable pub markOk : ℕ → ℕ → Bool
-markOk mark coverage = leb mark 3 && (not (coverageMarked mark) || leb coverage 7)
+markOk mark coverage = leb mark highestMark && (not (coverageMarked mark) || leb coverage 7)
 
 unfoldable pub marksOk : List ℕ → List ℕ → Bool
 marksOk [] marks = true
@@ -42,7 +42,7 @@ atMost most n = leb n most
 unfoldable pub Tells : List ℕ → List ℕ → Told → Type 0
 Tells cs ms Good = true ≡ marksOk cs ms
 Tells cs ms Bad = false ≡ marksOk cs ms
-Tells cs ms Mixed = every (atMost 3) ms ≡ true
+Tells cs ms Mixed = every (atMost highestMark) ms ≡ true
 
 -- the first of numbers 1 to 3 that holds
 unfoldable pub frameRefusal : Frame → ℕ → ℕ → ℕ

@@ -5,7 +5,7 @@ use mathlib.Core.Bool.{Bool, cond}
 use mathlib.Core.List.{List}
 use lib.ListN.{length, getD, set}
 use Rattle.cell.specs.declared.Cell.{Cell}
-use Rattle.cell.specs.Marks.{colorMarked, coverageMarked, coverageOf}
+use Rattle.cell.specs.Marks.{highestMark, colorMarked, coverageMarked, coverageOf}
 use Rattle.cell.specs.Rules.{orZero}
 
 -- colour bytes, coverages and marks
@@ -36,11 +36,12 @@ putCell f p x =
       marks = set (f .marks) p (x .mark);
     }
 
--- a frame of n pixels that numbers 1 to 3 let through: slices of their lengths, and no known coverage above 7
+-- a frame of n pixels that numbers 1 to 3 let through: slices of their lengths, no mark above the highest, and no known coverage above 7
 pub record Fit (n : ℕ) (f : Frame) : Type 0 where
   pub colors : length (f .colors) ≡ 3 * n
   pub coverages : length (f .coverages) ≡ n
   pub marks : length (f .marks) ≡ n
+  pub low : (p : ℕ) → getD (f .marks) p 0 ≤ highestMark
   pub sound : (p : ℕ) → orZero (coverageOf (getD (f .marks) p 0) (getD (f .coverages) p 0)) ≤ 7
 
 -- ---- a pixel as far as it is known

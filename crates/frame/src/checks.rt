@@ -4,7 +4,7 @@ ghost use mathlib.Core.Bool.{true, _&&_};
 ghost use Prim.Native.Nat.{_*_, _<_, _≤_};
 ghost use lib.Dec.{eqb};
 ghost use lib.ListN.{length, getD};
-ghost use Rattle.cell.specs.Marks.{coverageMarked};
+ghost use Rattle.cell.specs.Marks.{highestMark, coverageMarked};
 ghost use Rattle.frame.specs.Frame.{frameOf};
 ghost use Rattle.frame.specs.Checks.{sizeOk, sizesOk, markOk, marksOk, every, atMost, Tells, frameRefusal};
 
@@ -89,7 +89,7 @@ fn all_marked(marks: &[u8]) -> bool
 
 // An unmarked coverage is not read. The mark itself was checked before.
 fn mark_ok(coverages: &[u8], marks: &[u8], i: usize) -> bool
-    requires { ⌜ (i < length (now coverages)) × ((i < length (now marks)) × (getD (now marks) i 0 ≤ 3)) ⌝ }
+    requires { ⌜ (i < length (now coverages)) × ((i < length (now marks)) × (getD (now marks) i 0 ≤ highestMark)) ⌝ }
     ensures { λ r. ⌜ r ≡ markOk (getD (now (marks .entry)) i 0) (getD (now (coverages .entry)) i 0) ⌝ }
 {
     let mark = marks[i];
@@ -102,7 +102,7 @@ fn mark_ok(coverages: &[u8], marks: &[u8], i: usize) -> bool
 
 // One pixel after the other: for marks of which some, not all, mark a coverage. The one branch is whether a coverage may be read.
 fn mixed_ok(coverages: &[u8], marks: &[u8]) -> bool
-    requires { ⌜ (length (now coverages) ≡ length (now marks)) × (every (atMost 3) (now marks) ≡ true) ⌝ }
+    requires { ⌜ (length (now coverages) ≡ length (now marks)) × (every (atMost highestMark) (now marks) ≡ true) ⌝ }
     ensures { λ r. ⌜ r ≡ marksOk (now (coverages .entry)) (now (marks .entry)) ⌝ }
 {
     let mut ok = true;

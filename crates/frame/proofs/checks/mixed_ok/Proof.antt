@@ -5,6 +5,7 @@ use Prim.Native.Nat.{_-_}
 use native.Mathlib.Omega.{arith}
 use borrow.Author.Tests.{leb-true}
 use lib.ListN.{length, drop}
+use Rattle.cell.specs.Marks.{highestMark}
 use Rattle.frame.specs.Checks.{marksOk, atMost}
 use Rattle.frame.proofs.Refusals.{found-next, found-done, every-at, marks-more, marks-none}
 use Rattle.frame.proofs.checks.mixed_ok.Statement.{statement}
@@ -20,7 +21,7 @@ loop-holds : tie.Need-loop-holds Inv-loop μ-loop
 loop-holds c = refl
 
 mark-ok-requires : tie.Need-mark-ok-requires Inv-loop μ-loop
-mark-ok-requires c κs = (omega arith, (omega arith, leb-true _ _ (every-at (atMost 3) _ _ (c .before .before .before .before .pre .1) (c .loop-test .taken))))
+mark-ok-requires c κs = (omega arith, (omega arith, leb-true _ _ (every-at (atMost highestMark) _ _ (c .before .before .before .before .pre .1) (c .loop-test .taken))))
 
 add-i : tie.Need-add-i Inv-loop μ-loop
 add-i c = omega arith
