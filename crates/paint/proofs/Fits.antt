@@ -1,6 +1,8 @@
--- An emitted pixel keeps what numbers 1 to 3 leave of a frame: slices of their lengths, no mark above the highest, and no known coverage above 7. Assumes nothing.
+-- An emitted pixel keeps what numbers 1 to 3 leave of a frame: slices of their lengths, no mark above the highest, and no known coverage above 7. So does a list
+-- of them. Assumes nothing.
 use Prim.Native.Nat.{ℕ, _≤_}
 use mathlib.Core.Path.{_≡_}
+use mathlib.Core.List.{List}
 use lib.ListN.{length, length-set}
 use Rattle.mode.specs.declared.RenderMode.{RenderMode}
 use Rattle.combiner.specs.declared.Combiner.{Combiner}
@@ -8,9 +10,10 @@ use Rattle.edges.specs.Sample.{countOf}
 use Rattle.cell.specs.Rules.{cellStep}
 use Rattle.cell.proofs.Alike.{mark-after, coverage-after}
 use Rattle.raster.specs.Emitted.{Emit}
+use Rattle.raster.proofs.Placed.{Placed}
 use Rattle.frame.specs.Frame.{Frame, cellAt, Fit}
 use Rattle.frame.proofs.Fits.{mark-good, put-fit}
-use Rattle.paint.specs.Steps.{sourceOf, stepFrame}
+use Rattle.paint.specs.Steps.{sourceOf, stepFrame, drawList}
 
 module _ (mode : RenderMode) (k : Combiner) where
   pub step-marks : (f : Frame) (e : Emit) → length (stepFrame mode k f e .marks) ≡ length (f .marks)
@@ -24,3 +27,7 @@ module _ (mode : RenderMode) (k : Combiner) where
       let y = cellStep mode k (sourceOf e) x in
       put-fit h (e .pixel) y
       (mark-good (y .mark) (y .coverage) (mark-after mode k (sourceOf e) x) (coverage-after mode k (sourceOf e) x a b (h .sound (e .pixel))))
+
+  pub fit-list : {m n : ℕ} {f : Frame} {es : List Emit} → Fit n f → Placed m es → Fit n (drawList mode k f es)
+  fit-list h Placed.none = h
+  fit-list h (Placed.more {e} l c p) = fit-list (fit-step e h (c .0) (c .1)) p

@@ -2,9 +2,8 @@
 use mathlib.Core.Path.{_≡_, refl, sym, ap, subst, _∙_}
 use mathlib.Core.Bool.{Bool, true, false, cond, not, _&&_, _||_}
 use mathlib.Core.List.{List}
-use Prim.Native.Nat.{ℕ, _+_, _*_, _≤_, _<_}
-use borrow.Author.Tests.{ltb-true}
-use lib.Dec.{eqb, ltb, leb}
+use Prim.Native.Nat.{ℕ, _+_, _*_, _≤_}
+use lib.Dec.{eqb}
 use lib.Ieee.{Float}
 use Rattle.mode.specs.declared.RenderMode.{RenderMode}
 use Rattle.mode.specs.declared.Rgba.{Rgba}
@@ -29,7 +28,6 @@ use Rattle.cell.proofs.Own.{unshaded-step}
 use Rattle.vertex.specs.declared.row.ShadeRow.{ShadeRow}
 use Rattle.vertex.specs.Row.{shadeOn}
 use Rattle.edges.specs.Sample.{countOf}
-use Rattle.edges.proofs.Ones.{count-range}
 use Rattle.raster.specs.declared.Fragment.the-variants.{Empty}
 use Rattle.raster.specs.Emitted.{Emit, shown, covered, emits, mixedFragment}
 use Rattle.frame.specs.Frame.{Frame, Fit, cellAt, putCell}
@@ -146,10 +144,6 @@ module _ (pen : Pen) (mask pixel : ℕ) (shade : Float) {n : ℕ} {f : Frame} (f
         ran = record { state = t; count = refl };
         fit = subst (Fit n) (sym t) (fit-step (pen .mode) (pen .combiner) (emitOf pixel mask (pen .color) shade) fit (w .0) (w .1));
       })
-
--- a pixel that is shown has 1 to 8 samples
-pub shown-count : (antialias : Bool) (mask : ℕ) → mask < 256 → shown antialias mask ≡ true → (1 ≤ countOf mask) × (countOf mask ≤ 8)
-shown-count antialias mask l h = count-range mask (ltb-true 0 mask (first (ltb 0 mask) (antialias || leb 128 mask) h)) l
 
 -- what a pen draws is drawn with the mode and the combiner that it was made of
 pub by-pen :

@@ -5,5 +5,6 @@ pub mod Mapped
 pub mod Checked
 pub mod Inside
 pub mod Masks
+pub mod Placed
 pub mod Kept
 pub mod Counts

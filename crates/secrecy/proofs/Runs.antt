@@ -13,22 +13,20 @@ use lib.ListN.{length, getD, set}
 use lib.Seq.{getD-set-same, getD-set-other}
 use Rattle.mode.specs.declared.RenderMode.{RenderMode}
 use Rattle.combiner.specs.declared.Combiner.{Combiner}
-use Rattle.combiner.specs.declared.Made.{Made}
-use Rattle.combiner.specs.declared.Made.the-variants.{With, Without}
-use Rattle.combiner.specs.New.{newOf}
 use Rattle.pack.specs.Writer.{supportedOf}
 use Rattle.cell.specs.declared.Cell.{Cell}
 use Rattle.cell.specs.Marks.{colorMarked, coverageMarked}
 use Rattle.cell.specs.Rules.{cellStep}
 use Rattle.cell.specs.Alike.{AlikeCell}
 use Rattle.cell.proofs.Alike.{same-coverage, color-after}
-use Rattle.raster.specs.Admitted.{admittedOf}
 use Rattle.raster.specs.Emitted.{Emit}
+use Rattle.raster.proofs.Placed.{Placed}
 use Rattle.frame.specs.Frame.{Frame, cellAt}
 use Rattle.paint.specs.Steps.{sourceOf, stepFrame, drawList}
 use Rattle.frame.specs.Checks.{frameRefusal, orElse}
-use Rattle.draw.specs.Checks.{scissorOk, inputsOk, entryRefusal}
-use Rattle.draw.specs.Draw.{DrawArgs, Plan, emittedBy, admittedPlan, madePlan, refuseOr, planOf, answerBy, frameBy, drawAnswer, drawFrame}
+use Rattle.draw.specs.Checks.{entryRefusal}
+use Rattle.draw.specs.Draw.{DrawArgs, Plan, planOf, answerBy, frameBy, drawAnswer, drawFrame}
+use Rattle.draw.proofs.Frames.{pixelsOf, plan-marked}
 use Rattle.runs.specs.Run.{readAt, RunAnswer, runBy, runAnswer}
 use Rattle.runs.proofs.Answers.{answers-same}
 use Rattle.words.specs.Read.{ReadArgs, writerOf, wordRefusal, readRefusal, wordOf, wordOr, readAnswer}
@@ -37,8 +35,6 @@ use Rattle.frame.specs.Alike.{Alike}
 use Rattle.secrecy.proofs.Alike.{list-alike}
 use Rattle.frame.proofs.Alike.{refusal-same}
 use Rattle.paint.proofs.Fits.{step-marks}
-use Rattle.frame.proofs.Fits.{accepted}
-use Rattle.secrecy.proofs.Inside.{Below, emitted-below}
 
 -- ---- part 1: a word read
 -- a word that is not refused has a known colour
@@ -131,48 +127,19 @@ module _ (mode : RenderMode) (k : Combiner) (p : ℕ) where
       go (no n) = rw (ne-eqb q p n, getD-set-other (f .marks) q p mark 0 (λ (r : p ≡ q). n (sym r)))
 
   list-mark :
-      (f : Frame) (es : List Emit) → Below (length (f .marks)) es → knownAt p (drawList mode k f es) ≡ lastAt p (verdicts mode k f es) (knownAt p f)
+      (f : Frame) (es : List Emit) → Placed (length (f .marks)) es → knownAt p (drawList mode k f es) ≡ lastAt p (verdicts mode k f es) (knownAt p f)
   list-mark f [] b = refl
-  list-mark f (e ∷ es) (Below.more l b) =
-      list-mark (stepFrame mode k f e) es (subst (λ (n : ℕ). Below n es) (sym (step-marks mode k f e)) b)
+  list-mark f (e ∷ es) (Placed.more l c b) =
+      list-mark (stepFrame mode k f e) es (subst (λ (n : ℕ). Placed n es) (sym (step-marks mode k f e)) b)
       ∙ ap (lastAt p (verdicts mode k (stepFrame mode k f e) es)) (step-mark f e l)
 
--- what a plan emits has mark bytes: the frame is not refused, and a draw emits only pixels of the frame
-Placed : ℕ → Plan → Type 0
-Placed n (Plan.refuse k) = Below n []
-Placed n (Plan.accept k es) = Below n es
-
-module _ (w h : ℕ) (d : DrawArgs) {n : ℕ} (e : w * h ≡ n) where
-  placed-admitted : (k : Combiner) → Placed n (admittedPlan d w h k)
-  unfolding Placed
-  placed-admitted k = go (admittedOf k (d .geometry) (d .vertices) (d .present) (d .indices))
-    where
-      go : (b : Bool) → Placed n (cond b (Plan.accept k (emittedBy d w h k)) (Plan.refuse 7))
-      go true = subst (λ (m : ℕ). Below m (emittedBy d w h k)) e (emitted-below d w h k)
-      go false = Below.none
-
-  placed-made : (m : Made) → Placed n (madePlan d w h m)
-  unfolding Placed
-  placed-made Without = Below.none
-  placed-made (With k) = placed-admitted k
-
+-- what a plan emits has mark bytes
 module _ (w h : ℕ) (d : DrawArgs) (f : Frame) where
-  placed : Placed (length (f .marks)) (planOf d w h f)
-  unfolding planOf entryRefusal Placed
-  placed = go (frameRefusal f w h) refl (cond (scissorOk (d .scissor)) (cond (inputsOk (d .vertices) (d .present) (d .indices)) 0 5) 4)
-    where
-      go :
-          (r : ℕ) → frameRefusal f w h ≡ r → (q : ℕ)
-          → Placed (length (f .marks)) (refuseOr (orElse r q) (madePlan d w h (newOf (d .uniform) (d .mode))))
-      go zero e zero = placed-made w h d (sym (accepted f w h e .fit .marks)) (newOf (d .uniform) (d .mode))
-      go zero e (suc q) = Below.none
-      go (suc r) e q = Below.none
-
   draw-mark : (p : ℕ) → knownAt p (drawFrame d w h f) ≡ lastAt p (saidBy w h (Call.draw d) f) (knownAt p f)
-  unfolding drawFrame saidBy Placed
-  draw-mark p = go (planOf d w h f) placed
+  unfolding drawFrame saidBy
+  draw-mark p = go (planOf d w h f) (plan-marked d w h f)
     where
-      go : (plan : Plan) → Placed (length (f .marks)) plan → knownAt p (frameBy (d .mode) plan f) ≡ lastAt p (saidByPlan (d .mode) f plan) (knownAt p f)
+      go : (plan : Plan) → Placed (length (f .marks)) (pixelsOf plan) → knownAt p (frameBy (d .mode) plan f) ≡ lastAt p (saidByPlan (d .mode) f plan) (knownAt p f)
       go (Plan.refuse k) b = refl
       go (Plan.accept k es) b = list-mark (d .mode) k p f es b
 

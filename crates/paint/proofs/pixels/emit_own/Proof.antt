@@ -3,7 +3,8 @@ use mathlib.Core.Path.{sym, _∙_}
 use native.Mathlib.Omega.{arith}
 use borrow.Author.Tests.{not-true, not-false}
 use Rattle.cell.specs.Own.{InkOf}
-use Rattle.paint.proofs.Pens.{any-shade, own-none, own-one, shown-count}
+use Rattle.raster.proofs.Masks.{shown-count}
+use Rattle.paint.proofs.Pens.{any-shade, own-none, own-one}
 use borrow.Author.Needs.{needs}
 use Rattle.paint.proofs.pixels.emit_own.Statement.{statement}
 use Rattle.paint.proofs.pixels.emit_own.Tie as tie

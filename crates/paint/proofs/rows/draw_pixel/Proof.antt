@@ -5,7 +5,8 @@ use borrow.Author.Tests.{not-true, not-false}
 use Rattle.cell.specs.Own.{InkOf}
 use Rattle.frame.proofs.Fits.{pixels-le}
 use Rattle.paint.proofs.Drawing.{pixel-in}
-use Rattle.paint.proofs.Pens.{shown-count, shaded-none, shaded-one}
+use Rattle.raster.proofs.Masks.{shown-count}
+use Rattle.paint.proofs.Pens.{shaded-none, shaded-one}
 use borrow.Author.Needs.{needs}
 use Rattle.paint.proofs.rows.draw_pixel.Statement.{statement}
 use Rattle.paint.proofs.rows.draw_pixel.Tie as tie
