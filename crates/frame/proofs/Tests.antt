@@ -19,13 +19,6 @@ stops b h = λ i. sym h i && b
 pub goes-on : {a b r : Bool} → a ≡ true → r ≡ b → r ≡ (a && b)
 goes-on h e = λ i. sym h i && e i
 
--- a check that is asked only of what is marked
-pub excused : {b : Bool} (x : Bool) → b ≡ false → true ≡ (not b || x)
-excused x h = λ i. not (sym h i) || x
-
-pub held-to : {b : Bool} (x : Bool) → b ≡ true → x ≡ (not b || x)
-held-to x h = λ i. not (sym h i) || x
-
 -- the first of two that suffices, or the second
 pub enough : {b : Bool} (x : Bool) → b ≡ true → true ≡ (b || x)
 enough x h = λ i. sym h i || x

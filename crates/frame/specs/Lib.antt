@@ -1,4 +1,5 @@
--- The definitions that the contracts of `frame` cite, and when two frames are alike.
+-- The definitions that the contracts of `frame` cite, what may be loaded, and when two frames are alike.
 pub mod Frame
+pub mod Loads
 pub mod Checks
 pub mod Alike

@@ -6,7 +6,9 @@ ghost use lib.Dec.{eqb};
 ghost use lib.ListN.{length, getD};
 ghost use Rattle.cell.specs.Marks.{highestMark, coverageMarked};
 ghost use Rattle.frame.specs.Frame.{frameOf};
+ghost use Rattle.frame.specs.Loads.{CoverageThere};
 ghost use Rattle.frame.specs.Checks.{sizeOk, sizesOk, markOk, marksOk, every, atMost, Tells, frameRefusal};
+use crate::load;
 
 const SIZE: u32 = 1024;
 
@@ -58,15 +60,15 @@ fn lengths_ok(colors: usize, coverages: usize, marks: usize, pixels: usize) -> b
     marks == pixels
 }
 
-// Every byte is looked at, without a branch, so that the loop has no other exit and many are taken at a time. So it is in the next one.
-fn all_at_most(bytes: &[u8], most: u8) -> bool
-    ensures { λ r. ⌜ r ≡ every (atMost most) (now (bytes .entry)) ⌝ }
+// Every mark is looked at, without a branch, so that the loop has no other exit and many are taken at a time. So it is in the next two.
+fn all_at_most(marks: &[u8], most: u8) -> bool
+    ensures { λ r. ⌜ r ≡ every (atMost most) (now (marks .entry)) ⌝ }
 {
     let mut ok = true;
     let mut i = 0;
-    while i < bytes.len() {
-        let byte = bytes[i];
-        let small = byte <= most;
+    while i < marks.len() {
+        let mark = marks[i];
+        let small = mark <= most;
         ok = ok & small;
         i += 1;
     }
@@ -87,20 +89,32 @@ fn all_marked(marks: &[u8]) -> bool
     all
 }
 
-// An unmarked coverage is not read. The mark itself was checked before.
+// The one pass over all coverages, where every one is marked.
+fn all_low(coverages: &[u8], marks: &[u8]) -> bool
+    requires { ⌜ (length (now coverages) ≡ length (now marks)) × (every coverageMarked (now marks) ≡ true) ⌝ }
+    ensures { λ r. ⌜ r ≡ every (atMost 7) (now (coverages .entry)) ⌝ }
+{
+    let mut ok = true;
+    let mut i = 0;
+    while i < coverages.len() {
+        let coverage = load::coverage(coverages, marks, i);
+        let low = coverage <= COVERAGE;
+        ok = ok & low;
+        i += 1;
+    }
+    ok
+}
+
+// An unmarked coverage is not loaded. The mark itself was checked before.
 fn mark_ok(coverages: &[u8], marks: &[u8], i: usize) -> bool
-    requires { ⌜ (i < length (now coverages)) × ((i < length (now marks)) × (getD (now marks) i 0 ≤ highestMark)) ⌝ }
+    requires { ⌜ (i < length (now marks)) × (getD (now marks) i 0 ≤ highestMark) ⌝ ∗ ⌜ CoverageThere (now coverages) (now marks) i ⌝ }
     ensures { λ r. ⌜ r ≡ markOk (getD (now (marks .entry)) i 0) (getD (now (coverages .entry)) i 0) ⌝ }
 {
-    let mark = marks[i];
-    if !cell::coverage_marked(mark) {
-        return true;
-    }
-    let coverage = coverages[i];
+    let coverage = load::known_coverage(coverages, marks, i);
     coverage <= COVERAGE
 }
 
-// One pixel after the other: for marks of which some, not all, mark a coverage. The one branch is whether a coverage may be read.
+// One pixel after the other: for marks of which some, not all, mark a coverage. The one branch is whether a coverage may be loaded.
 fn mixed_ok(coverages: &[u8], marks: &[u8]) -> bool
     requires { ⌜ (length (now coverages) ≡ length (now marks)) × (every (atMost highestMark) (now marks) ≡ true) ⌝ }
     ensures { λ r. ⌜ r ≡ marksOk (now (coverages .entry)) (now (marks .entry)) ⌝ }
@@ -115,7 +129,7 @@ fn mixed_ok(coverages: &[u8], marks: &[u8]) -> bool
     ok
 }
 
-// The marks alone say whether no coverage may be read, every one, or only some. Each is a pass without a branch.
+// The marks alone say whether no coverage may be loaded, every one, or only some. Each is a pass without a branch.
 fn look(coverages: &[u8], marks: &[u8]) -> Told
     requires { ⌜ length (now coverages) ≡ length (now marks) ⌝ }
     ensures { λ r. ⌜ Tells (now (coverages .entry)) (now (marks .entry)) r ⌝ }
@@ -129,7 +143,7 @@ fn look(coverages: &[u8], marks: &[u8]) -> Told
     if !all_marked(marks) {
         return Told::Mixed;
     }
-    if all_at_most(coverages, COVERAGE) {
+    if all_low(coverages, marks) {
         return Told::Good;
     }
     Told::Bad

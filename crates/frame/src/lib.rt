@@ -2,41 +2,26 @@
 // says that it is known, and written only where it then is.
 ghost use mathlib.Core.Path.{_≡_};
 ghost use Prim.Native.Nat.{_<_};
-ghost use mathlib.Core.Bool.{cond};
-ghost use lib.ListN.{length, getD};
+ghost use lib.ListN.{length};
 ghost use Rattle.frame.specs.Frame.{Fit, frameOf, cellAt, knownCell, putIf, putKnown};
+ghost use Rattle.frame.specs.Loads.{Loadable};
 use cell::Cell;
 
+pub mod load; // the loads of colour and coverage bytes
 pub mod checks; // numbers 1 to 3
-
-// A byte, if it is known; else 0, and it is not read.
-pub fn known_byte(bytes: &[u8], at: usize, known: bool) -> u8
-    requires { ⌜ at < length (now bytes) ⌝ }
-    ensures { λ r. ⌜ r ≡ cond known (getD (now (bytes .entry)) at 0) 0 ⌝ }
-{
-    if known {
-        return bytes[at];
-    }
-    0
-}
 
 // The bytes of a pixel as far as they are known.
 pub fn known_cell(colors: &[u8], coverages: &[u8], marks: &[u8], pixel: usize) -> Cell
-    requires { ⌜ pixel < length (now marks) ⌝ ∗ ⌜ Fit (length (now marks)) (frameOf (now colors) (now coverages) (now marks)) ⌝ }
+    requires { ⌜ Loadable (frameOf (now colors) (now coverages) (now marks)) pixel ⌝ }
     ensures { λ r. ⌜ r ≡ knownCell (cellAt (frameOf (now (colors .entry)) (now (coverages .entry)) (now (marks .entry))) pixel) ⌝ }
 {
-    let at = 3 * pixel;
     let mark = marks[pixel];
-    let known = cell::color_marked(mark);
-    let covered = cell::coverage_marked(mark);
-    let red = known_byte(colors, at, known);
-    let green = known_byte(colors, at + 1, known);
-    let blue = known_byte(colors, at + 2, known);
-    let coverage = known_byte(coverages, pixel, covered);
+    let color = load::known_color(colors, marks, pixel);
+    let coverage = load::known_coverage(coverages, marks, pixel);
     Cell {
-        red,
-        green,
-        blue,
+        red: color.red,
+        green: color.green,
+        blue: color.blue,
         coverage,
         mark,
     }

@@ -22,6 +22,7 @@ use Rattle.raster.specs.Parts.{from}
 use Rattle.raster.specs.Emitted.{Emit}
 use Rattle.raster.proofs.Parts.{from-more, from-none}
 use Rattle.frame.specs.Frame.{Frame, Fit, frameOf, cellAt, putCell, putIf}
+use Rattle.frame.specs.Loads.{colorsAt, colorsIf}
 use Rattle.paint.specs.declared.pen.Pen.{Pen}
 use Rattle.paint.specs.Steps.{Drew, sourceOf, stepFrame}
 use Rattle.paint.specs.Pixel.{emitOf, Room}
@@ -98,21 +99,19 @@ filled-pixel opaque seven sets own f p em e = e ∙ (λ i. fullAt (opaque || em 
 
 -- a layered pixel, of which the memory's bytes are looked at where they are known
 pub laid-pixel :
-    (seven sets : Bool) (layer : Layer) (f : Frame) (p : ℕ) {known : Bool} {r g b : ℕ} {new : Colors} {h : Frame} → known ≡ colorMarked (getD (f .marks) p 0)
-    → r ≡ cond known (getD (f .colors) (3 * p) 0) 0 → g ≡ cond known (getD (f .colors) (3 * p + 1) 0) 0 → b ≡ cond known (getD (f .colors) (3 * p + 2) 0) 0
-    → new ≡ overColors layer (record { red = r; green = g; blue = b }) → h ≡ fullAt known seven sets new f p
+    (seven sets : Bool) (layer : Layer) (f : Frame) (p : ℕ) {known : Bool} {memory new : Colors} {h : Frame} → known ≡ colorMarked (getD (f .marks) p 0)
+    → memory ≡ colorsIf (colorMarked (getD (f .marks) p 0)) (colorsAt (f .colors) p) → new ≡ overColors layer memory → h ≡ fullAt known seven sets new f p
     → h ≡ laidAt seven sets layer f p
 unfolding fullCell
-laid-pixel seven sets layer f p {known} ek er eg eb en e =
+laid-pixel seven sets layer f p {known} ek em en e =
+    let marked = colorMarked (getD (f .marks) p 0) in
     e
-    ∙ (λ i. fullAt known seven sets (en i) f p)
-    ∙ (λ i. fullAt known seven sets (overColors layer (record { red = er i; green = eg i; blue = eb i })) f p)
-    ∙ ap (putCell f p) (looked known)
-    ∙ (λ i. fullAt (ek i) seven sets (overColors layer (three (f .colors) (3 * p))) f p)
+    ∙ (λ i. fullAt (ek i) seven sets (en i) f p)
+    ∙ (λ i. fullAt marked seven sets (overColors layer (em i)) f p)
+    ∙ ap (putCell f p) (looked marked)
   where
     looked : (b : Bool)
-        → fullCell b seven sets (overColors layer (record { red = cond b (getD (f .colors) (3 * p) 0) 0; green = cond b (getD (f .colors) (3 * p + 1) 0) 0; blue = cond b (getD (f .colors) (3 * p + 2) 0) 0 })) (cellAt f p)
-        ≡ fullCell b seven sets (overColors layer (three (f .colors) (3 * p))) (cellAt f p)
+        → fullCell b seven sets (overColors layer (colorsIf b (colorsAt (f .colors) p))) (cellAt f p) ≡ fullCell b seven sets (overColors layer (colorsAt (f .colors) p)) (cellAt f p)
     looked true = refl
     looked false = refl
 

@@ -134,13 +134,10 @@ fn lay_pixel(
     requires { ⌜ pixel < length (now marks) ⌝ ∗ ⌜ Long (frameOf (now colors) (now coverages) (now marks)) ⌝ }
     ensures { λ r. ⌜ frameOf (now (colors .exit)) (now (coverages .exit)) (now (marks .exit)) ≡ laidAt seven sets layer (frameOf (now (colors .entry)) (now (coverages .entry)) (now (marks .entry))) pixel ⌝ }
 {
-    let at = 3 * pixel;
     let mark = marks[pixel];
     let known = cell::color_marked(mark);
-    let red = frame::known_byte(colors, at, known);
-    let green = frame::known_byte(colors, at + 1, known);
-    let blue = frame::known_byte(colors, at + 2, known);
-    let new = cell::over_colors(layer, Colors { red, green, blue });
+    let memory = frame::load::known_color(colors, marks, pixel);
+    let new = cell::over_colors(layer, memory);
     let marked = cell::coverage_marked(mark);
     put_full(
         colors,

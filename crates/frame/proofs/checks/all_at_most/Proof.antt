@@ -1,4 +1,4 @@
--- `all_at_most` meets its contract: what was found and the bytes from i on decide.
+-- `all_at_most` meets its contract: what was found and the marks from i on decide.
 use mathlib.Core.Path.{_≡_, refl}
 use mathlib.Core.Bool.{_&&_}
 use Prim.Native.Nat.{_-_}
@@ -11,16 +11,16 @@ use Rattle.frame.proofs.checks.all_at_most.Statement.{statement}
 use Rattle.frame.proofs.checks.all_at_most.Tie as tie
 
 abbrev Inv-loop : tie.InvT-loop
-Inv-loop bytes most ok₀ i₀ ok i = (ok && every (atMost most) (drop i bytes)) ≡ every (atMost most) bytes
+Inv-loop marks most ok₀ i₀ ok i = (ok && every (atMost most) (drop i marks)) ≡ every (atMost most) marks
 
 abbrev μ-loop : tie.MeasureT-loop
-μ-loop bytes most ok₀ i₀ ok i = length bytes - i
+μ-loop marks most ok₀ i₀ ok i = length marks - i
 
 loop-holds : tie.Need-loop-holds Inv-loop μ-loop
 loop-holds c = refl
 
-shared-slice-read-byte : tie.Need-shared-slice-read-byte Inv-loop μ-loop
-shared-slice-read-byte c = search needs
+shared-slice-read-mark : tie.Need-shared-slice-read-mark Inv-loop μ-loop
+shared-slice-read-mark c = search needs
 
 add-i : tie.Need-add-i Inv-loop μ-loop
 add-i c = omega arith
@@ -43,7 +43,7 @@ all-at-most-spec =
     Inv-loop
     μ-loop
     loop-holds
-    shared-slice-read-byte
+    shared-slice-read-mark
     add-i
     loop-less
     loop-again

@@ -28,21 +28,21 @@ returns-3 : tie.Need-returns-3
 unfolding Tells
 returns-3 c = was-true (c .before .before .before .all-at-most2 .ensures) (c .before .before .if2 .left)
 
-all-at-most-requires-3 : tie.Need-all-at-most-requires-3
-all-at-most-requires-3 c κs = search needs
+all-low-requires : tie.Need-all-low-requires
+all-low-requires c κs = (search needs, was-true (c .before .all-marked .ensures) (c .if3 .left))
 
 returns-4 : tie.Need-returns-4
 unfolding Tells
 returns-4 c =
     sym (c .if4 .taken)
-    ∙ c .before .all-at-most3 .ensures
+    ∙ c .before .all-low .ensures
     ∙ marks-marked _ _ (c .before .before .before .before .before .before .before .before .before .before .pre) (was-true (c .before .before .before .before .before .all-at-most2 .ensures) (c .before .before .before .before .if2 .left)) (was-true (c .before .before .before .all-marked .ensures) (c .before .before .if3 .left))
 
 returns-5 : tie.Need-returns-5
 unfolding Tells
 returns-5 c =
     sym (c .if4 .left)
-    ∙ c .before .all-at-most3 .ensures
+    ∙ c .before .all-low .ensures
     ∙ marks-marked _ _ (c .before .before .before .before .before .before .before .before .before .before .pre) (was-true (c .before .before .before .before .before .all-at-most2 .ensures) (c .before .before .before .before .if2 .left)) (was-true (c .before .before .before .all-marked .ensures) (c .before .before .if3 .left))
 
 pub look-spec : {M : Type 1} → statement M
@@ -55,6 +55,6 @@ look-spec =
     returns-2
     all-marked-requires
     returns-3
-    all-at-most-requires-3
+    all-low-requires
     returns-4
     returns-5)

@@ -21,7 +21,7 @@ loop-holds : tie.Need-loop-holds Inv-loop μ-loop
 loop-holds c = refl
 
 mark-ok-requires : tie.Need-mark-ok-requires Inv-loop μ-loop
-mark-ok-requires c κs = (omega arith, (omega arith, leb-true _ _ (every-at (atMost highestMark) _ _ (c .before .before .before .before .pre .1) (c .loop-test .taken))))
+mark-ok-requires c κs = ((omega arith, leb-true _ _ (every-at (atMost highestMark) _ _ (c .before .before .before .before .pre .1) (c .loop-test .taken))), λ _. omega arith)
 
 add-i : tie.Need-add-i Inv-loop μ-loop
 add-i c = omega arith

@@ -9,13 +9,14 @@ use Rattle.cell.proofs.Own.{ink-step}
 use Rattle.cell.specs.Marks.{coverageOf}
 use Rattle.cell.specs.Rules.{orZero}
 use Rattle.frame.specs.Frame.{frameOf, cellAt}
+use Rattle.frame.proofs.Loads.{fit-loadable}
 use Rattle.paint.proofs.Steps.{known-sound, stored-known}
 use borrow.Author.Needs.{needs}
 use Rattle.paint.proofs.pixels.put_ink.Statement.{statement}
 use Rattle.paint.proofs.pixels.put_ink.Tie as tie
 
 known-cell-requires : tie.Need-known-cell-requires
-known-cell-requires c κs = search needs
+known-cell-requires c κs = let s = c .before .before .before .before .before .before in fit-loadable (s .pre .1 .1) (s .pre .1 .0)
 
 count-requires : tie.Need-count-requires
 count-requires c κs = search needs
