@@ -12,7 +12,6 @@ use Rattle.cell.specs.declared.Cell.{Cell}
 use Rattle.cell.specs.Marks.{colorMarked, coverageMarked, coverageOf}
 use Rattle.cell.specs.Rules.{orZero}
 use Rattle.cell.proofs.Alike.{never}
-use Rattle.blender.specs.declared.Coverage.the-variants.{Unknown, Known}
 use Rattle.pack.specs.declared.FramebufferEncoding.{FramebufferEncoding}
 use Rattle.pack.specs.declared.Literal.the-variants.{Absent}
 use Rattle.pack.specs.declared.Rgba8.{Rgba8}
@@ -20,14 +19,15 @@ use Rattle.pack.specs.declared.Bytes2.{Bytes2}
 use Rattle.pack.specs.declared.Writer.{Writer}
 use Rattle.pack.specs.Writer.{colorSupported, supportedOf, pixelBytesOf, colorOf, encodeOf}
 use Rattle.pack.proofs.Encoded.{encode-by, absent-by, color-by}
-use Rattle.frame.specs.Frame.{Frame, Fit, cellAt}
+use Rattle.frame.specs.Frame.{Frame, cellAt}
 use Rattle.frame.specs.Checks.{frameRefusal}
-use Rattle.frame.proofs.Fits.{both-left, both-right}
+use Rattle.frame.proofs.Fits.{both-right}
+use Rattle.frame.proofs.Loads.{marked-coverage}
 use Rattle.words.specs.Read.{ReadArgs, WordAnswer, writerBy, writerOf, readable, bytesOf, wordBy, readAnswer}
 use Rattle.runs.specs.Run.{readAt}
 use Rattle.runs.specs.Entries.{byteOf, wordAt, answerAt, answerIn, At}
 use Rattle.runs.specs.declared.entry.Place.{Place}
-use Rattle.words.proofs.Reading.{known-byte, tenth, read}
+use Rattle.words.proofs.Reading.{tenth, read}
 
 -- ---- column and row
 pub at-first : (w p : ℕ) → 0 < w → At w p (record { x = p % w; y = p / w })
@@ -61,11 +61,12 @@ module _ {w p : ℕ} {q : Place} (a : At w p q) where
   answer-here siz dither e f = λ i. answerAt siz (sym column-is i) (sym row-is i) dither e (cellAt f p)
 
 -- ---- a byte by the column, and a word by the size
-pub byte-even : (x : ℕ) (c : Rgba8) → x % 2 ≡ 0 → _≡_ {A = Bytes2} (c .r, 0) (byteOf x c)
-byte-even x c h = λ i. (cond (sym (eq-eqb (x % 2) 0 h) i) (c .r) (c .g), 0)
+module _ (x : ℕ) (c : Rgba8) {n : ℕ} where
+  pub byte-even : n ≡ c .r → x % 2 ≡ 0 → _≡_ {A = Bytes2} (n, 0) (byteOf x c)
+  byte-even e h = λ i. (cond (sym (eq-eqb (x % 2) 0 h) i) (e i) (c .g), 0)
 
-pub byte-odd : (x : ℕ) (c : Rgba8) → (x % 2 ≡ 0 → ⊥) → _≡_ {A = Bytes2} (c .g, 0) (byteOf x c)
-byte-odd x c h = λ i. (cond (sym (ne-eqb (x % 2) 0 h) i) (c .r) (c .g), 0)
+  pub byte-odd : n ≡ c .g → (x % 2 ≡ 0 → ⊥) → _≡_ {A = Bytes2} (n, 0) (byteOf x c)
+  byte-odd e h = λ i. (cond (sym (ne-eqb (x % 2) 0 h) i) (c .r) (e i), 0)
 
 pub by-true : {b : Bool} {r x : Bytes2} (y : Bytes2) → b ≡ true → r ≡ x → r ≡ cond b x y
 by-true {b} {r} {x} y h e = e ∙ (λ i. cond (sym h i) x y)
@@ -74,18 +75,15 @@ pub by-false : {b : Bool} {r y : Bytes2} (x : Bytes2) → b ≡ false → r ≡ 
 by-false {b} {r} {y} x h e = e ∙ (λ i. cond (sym h i) x y)
 
 -- ---- what number 10 leaves for 16 bits: a known coverage
-pub marked-for-two : (mark : ℕ) → readable mark 2 ≡ true → coverageMarked mark ≡ true
+marked-for-two : (mark : ℕ) → readable mark 2 ≡ true → coverageMarked mark ≡ true
 marked-for-two mark h = go (coverageMarked mark) (both-right (colorMarked mark) (coverageMarked mark || not (eqb 2 2)) h)
   where
     go : (b : Bool) → (b || false) ≡ true → b ≡ true
     go true p = refl
     go false p = p
 
-pub coverage-small :
-    {n : ℕ} {f : Frame} → Fit n f → (p siz : ℕ) → readable (getD (f .marks) p 0) siz ≡ true → siz ≡ 2 → getD (f .coverages) p 0 ≤ 7
-coverage-small {n} {f} t p siz r e =
-    let m = marked-for-two (getD (f .marks) p 0) (subst (λ (s : ℕ). readable (getD (f .marks) p 0) s ≡ true) e r) in
-    omega (arith, t .sound p, known-byte (getD (f .coverages) p 0) m)
+pub marked-by-size : (mark : ℕ) {siz : ℕ} → readable mark siz ≡ true → siz ≡ 2 → coverageMarked mark ≡ true
+marked-by-size mark r e = marked-for-two mark (subst (λ (s : ℕ). readable mark s ≡ true) e r)
 
 -- ---- the word is `encode`'s
 module _ (w fmt p dither : ℕ) (e : FramebufferEncoding) (c : Cell) where
@@ -104,7 +102,7 @@ module _ (w fmt p dither : ℕ) (e : FramebufferEncoding) (c : Cell) where
       → wordAt 2 (p % w) (p / w) dither e (bytesOf c) (c .coverage) ≡ wordBy (writerBy w fmt 2) p dither e c
   unfolding pixelBytesOf
   two s r =
-      (λ i. wordAt 2 (p % w) (p / w) dither e (bytesOf c) (known-byte (c .coverage) (marked-for-two (c .mark) r) i))
+      (λ i. wordAt 2 (p % w) (p / w) dither e (bytesOf c) (marked-coverage (c .coverage) (marked-for-two (c .mark) r) i))
       ∙ sym (color-by (record { fmt = fmt; siz = 2; width = w }) (bytesOf c) (orZero (coverageOf (c .mark) (c .coverage))) p dither e false refl)
       ∙ sym (writes 2 s)
 

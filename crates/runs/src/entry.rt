@@ -1,9 +1,10 @@
-// The entries of a run of words. What does not turn on the pixel is asked before; column and row are counted along, not divided out. A colour byte is read after
-// number 10 let it through, and a coverage only for 16 bits, where number 10 asks its mark.
+// The entries of a run of words. What does not turn on the pixel is asked before; column and row are counted along, not divided out. A colour byte is loaded
+// after number 10 let it through, and a coverage only for 16 bits, where number 10 asks its mark.
 ghost use mathlib.Core.Path.{_≡_};
 ghost use Prim.Native.Nat.{ℕ, _+_, _*_, _<_, _≤_};
 ghost use lib.ListN.{length, getD};
 ghost use Rattle.frame.specs.Frame.{Fit, frameOf, cellAt};
+ghost use Rattle.frame.specs.Loads.{ColorKnown, CoverageKnown, ColorThere, Loadable};
 ghost use Rattle.runs.specs.Run.{oneIf, countOf, answersFrom};
 ghost use Rattle.runs.specs.Entries.{entriesOf, putEntry, Matched, Wrote, answerOf, refusedBy, colorAt, halfword, byteOf, wordAt, answerAt, answerIn, At};
 use pack::Bytes2;
@@ -42,58 +43,57 @@ pub fn fill(words: &mut [u8], numbers: &mut [u8], start: usize, end: usize, numb
 fn read_halfword(
     colors: &[u8],
     coverages: &[u8],
+    marks: &[u8],
     pixel: usize,
     place: Place,
     rgb_dither: u8,
     encoding: FramebufferEncoding,
 ) -> Bytes2
-    requires { ⌜ (3 * pixel + 2 < length (now colors)) × (pixel < length (now coverages)) × (getD (now coverages) pixel 0 ≤ 7) ⌝ }
+    requires { ⌜ ColorKnown (now marks) pixel × CoverageKnown (now marks) pixel ⌝ ∗ ⌜ Loadable (frameOf (now colors) (now coverages) (now marks)) pixel ⌝ }
     ensures { λ r. ⌜ r ≡ halfword (place .x) (place .y) «rgb_dither» encoding (colorAt (now (colors .entry)) pixel) (getD (now (coverages .entry)) pixel 0) ⌝ }
 {
-    let red_at = 3 * pixel;
-    let green_at = red_at + 1;
-    let blue_at = red_at + 2;
-    let r = colors[red_at];
-    let g = colors[green_at];
-    let b = colors[blue_at];
-    let coverage = coverages[pixel];
-    let rgba = Rgba8 { r, g, b, a: 0 };
+    let color = frame::load::color(colors, marks, pixel);
+    let coverage = frame::load::coverage(coverages, marks, pixel);
+    let rgba = Rgba8 {
+        r: color.red,
+        g: color.green,
+        b: color.blue,
+        a: 0,
+    };
     let threshold = pack::word_threshold(rgb_dither, place.x, place.y);
     let word = pack::pack_color(rgba, coverage, threshold);
     pack::encode_u16(encoding, word)
 }
 
 // A pixel of 8 bits: red in even columns, green in odd ones.
-fn read_byte(colors: &[u8], pixel: usize, x: usize) -> Bytes2
-    requires { ⌜ 3 * pixel + 2 < length (now colors) ⌝ }
+fn read_byte(colors: &[u8], marks: &[u8], pixel: usize, x: usize) -> Bytes2
+    requires { ⌜ ColorKnown (now marks) pixel ⌝ ∗ ⌜ ColorThere (now colors) (now marks) pixel ⌝ }
     ensures { λ r. ⌜ r ≡ byteOf x (colorAt (now (colors .entry)) pixel) ⌝ }
 {
-    let red_at = 3 * pixel;
-    let green_at = red_at + 1;
+    let color = frame::load::color(colors, marks, pixel);
     if x % 2 == 0 {
-        let red = colors[red_at];
-        return Bytes2(red, 0);
+        return Bytes2(color.red, 0);
     }
-    let green = colors[green_at];
-    Bytes2(green, 0)
+    Bytes2(color.green, 0)
 }
 
 fn read_at(
     colors: &[u8],
     coverages: &[u8],
+    marks: &[u8],
     siz: u8,
     pixel: usize,
     place: Place,
     rgb_dither: u8,
     encoding: FramebufferEncoding,
 ) -> Bytes2
-    requires { ⌜ (3 * pixel + 2 < length (now colors)) × (pixel < length (now coverages)) × (siz ≡ 2 → getD (now coverages) pixel 0 ≤ 7) ⌝ }
+    requires { ⌜ ColorKnown (now marks) pixel × (siz ≡ 2 → CoverageKnown (now marks) pixel) ⌝ ∗ ⌜ Loadable (frameOf (now colors) (now coverages) (now marks)) pixel ⌝ }
     ensures { λ r. ⌜ r ≡ wordAt siz (place .x) (place .y) «rgb_dither» encoding (colorAt (now (colors .entry)) pixel) (getD (now (coverages .entry)) pixel 0) ⌝ }
 {
     if siz == 2 {
-        return read_halfword(colors, coverages, pixel, place, rgb_dither, encoding);
+        return read_halfword(colors, coverages, marks, pixel, place, rgb_dither, encoding);
     }
-    read_byte(colors, pixel, place.x)
+    read_byte(colors, marks, pixel, place.x)
 }
 
 // Entry i, of a pixel that numbers 1 to 9 let through: 1 for a word, 0 for number 10.
@@ -110,7 +110,7 @@ fn read_entry(
     numbers: &mut [u8],
     i: usize,
 ) -> u64
-    requires { ⌜ pixel < length (now marks) ⌝ ∗ ⌜ Fit (length (now marks)) (frameOf (now colors) (now coverages) (now marks)) ⌝ ∗ ⌜ i < length (now numbers) ⌝ ∗ ⌜ Matched (length (now numbers)) (entriesOf (now words) (now numbers)) ⌝ }
+    requires { ⌜ Loadable (frameOf (now colors) (now coverages) (now marks)) pixel ⌝ ∗ ⌜ i < length (now numbers) ⌝ ∗ ⌜ Matched (length (now numbers)) (entriesOf (now words) (now numbers)) ⌝ }
     ensures { λ r. ⌜ entriesOf (now (words .exit)) (now (numbers .exit)) ≡ putEntry (entriesOf (now (words .entry)) (now (numbers .entry))) i (answerAt siz (place .x) (place .y) «rgb_dither» encoding (cellAt (frameOf (now (colors .entry)) (now (coverages .entry)) (now (marks .entry))) pixel)) ⌝ ∗ ⌜ r ≡ oneIf (answerAt siz (place .x) (place .y) «rgb_dither» encoding (cellAt (frameOf (now (colors .entry)) (now (coverages .entry)) (now (marks .entry))) pixel) .number) ⌝ }
 {
     let mark = marks[pixel];
@@ -119,7 +119,16 @@ fn read_entry(
         put_entry(words, numbers, i, 10, none);
         return 0;
     }
-    let word = read_at(colors, coverages, siz, pixel, place, rgb_dither, encoding);
+    let word = read_at(
+        colors,
+        coverages,
+        marks,
+        siz,
+        pixel,
+        place,
+        rgb_dither,
+        encoding,
+    );
     put_entry(words, numbers, i, 0, word);
     1
 }

@@ -1,14 +1,13 @@
 -- Laws of a word read: its answer from the number that decides it, and what `encode` needs where none does. Assumes nothing.
 use mathlib.Core.Path.{_≡_, refl, sym, ap, subst, _∙_}
-use mathlib.Core.Bool.{Bool, true, false, cond, _&&_, _||_}
+use mathlib.Core.Bool.{Bool, true, false, _&&_, _||_}
 use Prim.Native.Nat.{ℕ, zero, suc, _*_, _≤_, _<_}
 use native.Mathlib.Omega.{arith}
 use borrow.Author.Tests.{le-ltb, lt-ltb, eqb-true}
 use lib.Dec.{eqb, leb}
 use lib.ListN.{length, getD}
-use Rattle.cell.specs.Rules.{orZero}
+use Rattle.cell.specs.declared.Colors.{Colors}
 use Rattle.cell.proofs.Alike.{never}
-use Rattle.blender.specs.declared.Coverage.the-variants.{Unknown, Known}
 use Rattle.pack.specs.declared.Bytes2.{Bytes2}
 use Rattle.pack.specs.declared.FramebufferEncoding.{FramebufferEncoding}
 use Rattle.pack.specs.declared.Literal.the-variants.{Absent}
@@ -16,22 +15,21 @@ use Rattle.pack.specs.declared.Rgba8.{Rgba8}
 use Rattle.pack.specs.declared.Writer.{Writer}
 use Rattle.pack.specs.Writer.{colorSupported, supportedOf, encodeOf}
 use Rattle.words.specs.declared.Word.the-variants.{Bytes, Refused}
-use Rattle.frame.specs.Frame.{Frame, Fit, cellAt}
+use Rattle.frame.specs.Frame.{Frame, cellAt}
+use Rattle.frame.specs.Loads.{ColorKnown, Loadable}
 use Rattle.frame.specs.Checks.{orElse, frameRefusal}
 use Rattle.words.specs.Read.{ReadArgs, writerBy, writerOf, readable, wordRefusal, readRefusal, wordBy, wordOf, wordOr, wordMeans, readAnswer}
-use Rattle.frame.proofs.Fits.{accepted}
+use Rattle.frame.proofs.Fits.{both-left, accepted}
+use Rattle.frame.proofs.Loads.{fit-loadable}
 
--- ---- a coverage byte where it is marked, else 0
-pub known-byte : {b : Bool} (c : ℕ) → b ≡ true → c ≡ orZero (cond b (Known c) Unknown)
-known-byte c h = λ i. orZero (cond (sym h i) (Known c) Unknown)
-
-pub no-byte : {b : Bool} (c : ℕ) → b ≡ false → 0 ≡ orZero (cond b (Known c) Unknown)
-no-byte c h = λ i. orZero (cond (sym h i) (Known c) Unknown)
+-- ---- three loaded bytes and a coverage, encoded
+abbrev rgba : Colors → Rgba8
+rgba c = record { r = c .red; g = c .green; b = c .blue; a = 0 }
 
 pub encoded-with :
-    (x : Writer) (p : Rgba8) (pixel dither : ℕ) (e : FramebufferEncoding) {n m : ℕ} {r : Bytes2}
-    → r ≡ encodeOf x p n pixel Absent dither e → n ≡ m → r ≡ encodeOf x p m pixel Absent dither e
-encoded-with x p pixel dither e h g = h ∙ ap (λ (n : ℕ). encodeOf x p n pixel Absent dither e) g
+    (x : Writer) (pixel dither : ℕ) (e : FramebufferEncoding) {c d : Colors} {n m : ℕ} {r : Bytes2}
+    → r ≡ encodeOf x (rgba c) n pixel Absent dither e → c ≡ d → n ≡ m → r ≡ encodeOf x (rgba d) m pixel Absent dither e
+encoded-with x pixel dither e h l g = h ∙ (λ i. encodeOf x (rgba (l i)) (g i) pixel Absent dither e)
 
 -- ---- a supported colour writer has 8 or 16 bits
 siz-le : (siz : ℕ) (x y : Bool) → ((eqb siz 2 && x) || (eqb siz 1 && y)) ≡ true → siz ≤ 3
@@ -92,12 +90,12 @@ module _ (a : ReadArgs) (w h : ℕ) (f : Frame) {k : ℕ} (e : k ≡ frameRefusa
             ap (wordOr 0) (eb ∙ ap (λ (x : Writer). wordBy x (a .pixel) (a .dither) (a .encoding) (cellAt f (a .pixel))) ex)
             ∙ answer-by {j = 0} (rw (lt-ltb (a .pixel) (w * h) below, q, r))
 
-        -- what `encode` needs of the writer and of the frame
+        -- what `encoded` needs of the writer and of the pixel
         pub encodable :
-            {x : Writer} → x ≡ writerOf a w
-            → ((x .layout .siz ≤ 3) × (0 < x .layout .width)) × ((a .pixel < length (f .marks)) × Fit (length (f .marks)) f)
-        encodable {x} ex =
+            readable (getD (f .marks) (a .pixel) 0) (a .siz) ≡ true → {x : Writer} → x ≡ writerOf a w
+            → ((x .layout .siz ≤ 3) × (0 < x .layout .width)) × (ColorKnown (f .marks) (a .pixel) × Loadable f (a .pixel))
+        encodable r {x} ex =
             let y = accepted f w h (sym e ∙ z) in (
               subst (λ (x : Writer). (x .layout .siz ≤ 3) × (0 < x .layout .width)) (sym ex) (supported-le w (a .fmt) (a .siz) q, y .width .0),
-              (p, subst (λ (n : ℕ). Fit n f) (sym (y .fit .marks)) (y .fit)),
+              (both-left _ _ r, fit-loadable (y .fit) below),
             )

@@ -1,11 +1,9 @@
-// A word read from the lent frame: the word of one pixel, with numbers 1 to 3 and 8 to 10. A colour byte is read after number 10 let it through, a coverage only
+// A word read from the lent frame: the word of one pixel, with numbers 1 to 3 and 8 to 10. A colour byte is loaded after number 10 let it through, a coverage only
 // where it is marked.
 ghost use mathlib.Core.Path.{_≡_};
 ghost use Prim.Native.Nat.{_<_, _≤_};
-ghost use lib.ListN.{length, getD};
-ghost use Rattle.cell.specs.Marks.{coverageOf};
-ghost use Rattle.cell.specs.Rules.{orZero};
-ghost use Rattle.frame.specs.Frame.{Fit, frameOf, cellAt};
+ghost use Rattle.frame.specs.Frame.{frameOf, cellAt};
+ghost use Rattle.frame.specs.Loads.{ColorKnown, Loadable};
 ghost use Rattle.words.specs.Read.{readable, writerBy, wordBy, readArgs, wordMeans, readAnswer, Numbered};
 use pack::Bytes2;
 use pack::FramebufferEncoding;
@@ -43,19 +41,7 @@ pub fn is_readable(mark: u8, siz: u8) -> bool
     siz != 2
 }
 
-fn known_coverage(coverages: &[u8], marks: &[u8], pixel: usize) -> u8
-    requires { ⌜ (pixel < length (now coverages)) × (pixel < length (now marks)) ⌝ }
-    ensures { λ r. ⌜ r ≡ orZero (coverageOf (getD (now (marks .entry)) pixel 0) (getD (now (coverages .entry)) pixel 0)) ⌝ }
-{
-    let mark = marks[pixel];
-    if cell::coverage_marked(mark) {
-        let coverage = coverages[pixel];
-        return coverage;
-    }
-    0
-}
-
-// `encode`'s two bytes, without a literal.
+// `encode`'s two bytes, without a literal, of a pixel whose colour is known.
 fn encoded(
     colors: &[u8],
     coverages: &[u8],
@@ -65,17 +51,17 @@ fn encoded(
     rgb_dither: u8,
     encoding: FramebufferEncoding,
 ) -> Bytes2
-    requires { ⌜ (writer .layout .siz ≤ 3) × (0 < writer .layout .width) ⌝ ∗ ⌜ pixel < length (now marks) ⌝ ∗ ⌜ Fit (length (now marks)) (frameOf (now colors) (now coverages) (now marks)) ⌝ }
+    requires { ⌜ (writer .layout .siz ≤ 3) × (0 < writer .layout .width) ⌝ ∗ ⌜ ColorKnown (now marks) pixel ⌝ ∗ ⌜ Loadable (frameOf (now colors) (now coverages) (now marks)) pixel ⌝ }
     ensures { λ r. ⌜ r ≡ wordBy writer pixel «rgb_dither» encoding (cellAt (frameOf (now (colors .entry)) (now (coverages .entry)) (now (marks .entry))) pixel) ⌝ }
 {
-    let red_at = 3 * pixel;
-    let green_at = red_at + 1;
-    let blue_at = red_at + 2;
-    let r = colors[red_at];
-    let g = colors[green_at];
-    let b = colors[blue_at];
-    let coverage = known_coverage(coverages, marks, pixel);
-    let rgba = Rgba8 { r, g, b, a: 0 };
+    let color = frame::load::color(colors, marks, pixel);
+    let coverage = frame::load::known_coverage(coverages, marks, pixel);
+    let rgba = Rgba8 {
+        r: color.red,
+        g: color.green,
+        b: color.blue,
+        a: 0,
+    };
     pack::encode(
         writer,
         rgba,

@@ -50,6 +50,7 @@ encoded-requires c κs =
     let a = c .before .before .before .before .before .before .before .before .before .before .before .before .args in
     encodable (readArgs (a .pixel) (a .fmt) (a .siz) (a .rgb-dither) (a .encoding)) _ _ _ (c .before .before .before .before .before .before .before .before .frame-refusal .ensures) (c .before .before .before .before .before .before .before .if1 .left) (c .before .before .before .before .before .before .if2 .left)
     (was-true (c .before .before .before .before .supported .ensures ∙ ap supportedOf (c .before .before .before .before .before .writer .ensures)) (c .before .before .before .if3 .left))
+    (was-true (c .before .is-readable .ensures) (c .if4 .left))
     (c .before .before .before .before .before .writer .ensures)
 
 returns-5 : tie.Need-returns-5

@@ -6,7 +6,7 @@ use Rattle.runs.proofs.entry.read_at.Statement.{statement}
 use Rattle.runs.proofs.entry.read_at.Tie as tie
 
 read-halfword-requires : tie.Need-read-halfword-requires
-read-halfword-requires c κs = let s = c .before .before .before in (s .pre .0, s .pre .1, s .pre .2 (c .if1 .taken))
+read-halfword-requires c κs = let s = c .before .before .before .before in ((s .pre .0 .0, s .pre .0 .1 (c .if1 .taken)), s .pre .1)
 
 returns : tie.Need-returns
 returns c = by-true _ (eq-eqb _ _ (c .before .if1 .taken)) (c .read-halfword .ensures)

@@ -5,6 +5,7 @@ use native.Mathlib.Omega.{arith}
 use denote.Ref.{now}
 use lib.ListN.{length}
 use Rattle.frame.specs.Frame.{frameOf}
+use Rattle.frame.proofs.Loads.{fit-loadable}
 use Rattle.words.specs.Read.{WordAnswer}
 use Rattle.runs.specs.Run.{oneIf}
 use Rattle.runs.specs.Entries.{entriesOf, answerIn}
@@ -40,7 +41,7 @@ read-entry-requires c κs =
     let s = c .before .before .before .before .before .before .before .before .before in
     let m = c .before .before .before .loop .inv .wrote .matched in
     let t = c .before .before .loop-test .taken in
-    (omega (arith, t, s .pre .0 .1 (omega arith)), (s .pre .1 .0, (omega (arith, t, s .pre .0 .3, m .numbers), room m)))
+    (fit-loadable (s .pre .1 .0) (omega (arith, t, s .pre .0 .1 (omega arith))), (omega (arith, t, s .pre .0 .3, m .numbers), room m))
 
 add-n : tie.Need-add-n Inv-loop μ-loop
 add-n c =

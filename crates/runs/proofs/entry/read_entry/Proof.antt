@@ -1,10 +1,11 @@
 -- `read_entry` meets its contract: number 10, or the word.
-use native.Mathlib.Omega.{arith}
 use denote.Ref.{now}
+use lib.ListN.{getD}
 use Rattle.runs.specs.Entries.{entriesOf}
+use Rattle.frame.proofs.Fits.{both-left}
 use Rattle.frame.proofs.Tests.{was-true, was-false}
 use Rattle.runs.proofs.Entries.{entry-refused, entry-read}
-use Rattle.runs.proofs.Columns.{coverage-small}
+use Rattle.runs.proofs.Columns.{marked-by-size}
 use borrow.Author.Needs.{needs}
 use Rattle.runs.proofs.entry.read_entry.Statement.{statement}
 use Rattle.runs.proofs.entry.read_entry.Tie as tie
@@ -33,11 +34,8 @@ returns c =
 read-at-requires : tie.Need-read-at-requires
 read-at-requires c κs =
     let s = c .before .before .before .before .before .before .before .before in
-    let t = s .pre .1 .0 in (
-      omega (arith, s .pre .0, t .colors),
-      omega (arith, s .pre .0, t .coverages),
-      coverage-small t (s .args .pixel) (s .args .siz) (was-true (c .before .is-readable .ensures) (c .if1 .left)),
-    )
+    let r = was-true (c .before .is-readable .ensures) (c .if1 .left) in
+    ((both-left _ _ r, marked-by-size (getD (now (s .args .marks)) (s .args .pixel) 0) r), s .pre .0)
 
 put-entry-requires-2 : tie.Need-put-entry-requires-2
 put-entry-requires-2 c κs = search needs
