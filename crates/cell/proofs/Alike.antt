@@ -1,6 +1,6 @@
 -- The rules read the mark byte, and a byte only where it is marked; an unmarked byte is at most kept. So two alike pixels are alike after a step. Mark 1 is
 -- then as F1 and F2 say, the mark is not above the highest, and a known coverage keeps its three bits. Assumes nothing.
-use Prim.Native.Nat.{ℕ, _-_, _≤_}
+use Prim.Native.Nat.{ℕ, _≤_}
 use mathlib.Core.Path.{_≡_, refl, sym, ap, ap₂, _∙_}
 use mathlib.Core.Bool.{Bool, true, false, cond, not, _&&_}
 use native.Mathlib.Omega.{arith}
@@ -134,12 +134,12 @@ mark-after mode k s x =
 
 fresh-le : (mode : RenderMode) (n : ℕ) → n ≤ 8 → orZero (freshCoverage mode n) ≤ 7
 unfolding freshCoverage
-fresh-le mode n h = go (eqb (mode .«cvg_dst») 2) (eqb (mode .«cvg_dst») 0 && not (mode .«force_blend») && not (mode .antialias))
+fresh-le mode n h = go (eqb (mode .«cvg_dst») 2) (eqb (mode .«cvg_dst») 0 && not (mode .«force_blend») && not (mode .antialias)) _ _ (omega arith) (omega arith)
   where
-    go : (a b : Bool) → orZero (cond a (Known 7) (cond b (Known (n - 1)) Unknown)) ≤ 7
-    go true b = omega arith
-    go false true = omega arith
-    go false false = omega arith
+    go : (a b : Bool) (c d : ℕ) → c ≤ 7 → d ≤ 7 → orZero (cond a (Known c) (cond b (Known d) Unknown)) ≤ 7
+    go true b c d p q = p
+    go false true c d p q = q
+    go false false c d p q = omega arith
 
 rule-le : (mode : RenderMode) (n : ℕ) (c : Coverage) → 1 ≤ n → n ≤ 8 → orZero c ≤ 7 → orZero (ruleF5 mode n c) ≤ 7
 unfolding ruleF5
