@@ -1,4 +1,4 @@
--- A field of a word. Definitions only.
+-- To be believed. A field of a word. Definitions only.
 use Prim.Native.Nat.{ℕ, _/_, _%_, _^_}
 
 -- the n bits of v from bit k up, bit 0 being the lowest

@@ -17,9 +17,9 @@ use Rattle.blender.specs.declared.Coverage.{Coverage}
 use Rattle.blender.specs.declared.Coverage.the-variants.{Unknown, Known}
 use Rattle.blender.specs.Mux.{muxOf}
 use Rattle.blender.specs.Coverage.{overflow, overflows, blends}
-use Rattle.blender.specs.Known.{reject, alone, missing, anyCoverage, whereUnknown, colorKnown, opaqueOf}
-use Rattle.blender.specs.Blend.{f8, sourceOf, factorA, factorB, mixedOf, bytesOf, blendOf, ownOf}
-use Rattle.blender.specs.Layer.{layeredOf, steadyOf, layerOf}
+use Rattle.blender.specs.Known.{reject, alone, missing, anyCoverage, whereUnknown, colorKnown}
+use Rattle.blender.specs.Layer.{opaqueOf, ownOf, layeredOf, steadyOf, layerOf}
+use Rattle.blender.specs.Blend.{f8, sourceOf, factorA, factorB, mixedOf, bytesOf, blendOf}
 use Rattle.blender.proofs.Solid.{never, own-source}
 
 -- ---- the parts of a conjunction

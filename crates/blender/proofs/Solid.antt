@@ -13,8 +13,9 @@ use Rattle.blender.specs.declared.Coverage.{Coverage}
 use Rattle.blender.specs.declared.Coverage.the-variants.{Known}
 use Rattle.blender.specs.Mux.{muxOf}
 use Rattle.blender.specs.Coverage.{overflows, blends}
-use Rattle.blender.specs.Known.{reject, alone, missing, anyCoverage, whereUnknown, colorKnown, opaqueOf}
-use Rattle.blender.specs.Blend.{sourceOf, factorA, factorB, mixedOf, bytesOf, blendOf, ownOf}
+use Rattle.blender.specs.Known.{reject, alone, missing, anyCoverage, whereUnknown, colorKnown}
+use Rattle.blender.specs.Layer.{opaqueOf, ownOf}
+use Rattle.blender.specs.Blend.{sourceOf, factorA, factorB, mixedOf, bytesOf, blendOf}
 
 pub never : {A : Type 0} → false ≡ true → A
 never p = let z : _≡_ {A = ℕ} 0 1 = ap (λ (t : Bool). cond t 1 0) p in absurd (omega arith)

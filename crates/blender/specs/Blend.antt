@@ -1,4 +1,4 @@
--- The blend of a pixel with memory, as Rust's `blend`: each operation rounded once to an f32. Definitions only.
+-- To be believed. The blend of a pixel with memory, as Rust's `blend`: each operation rounded once to an f32. Definitions only.
 -- Source: N64 Programming Manual, RDP chapter, the blender; N64brew wiki, Reality Display Processor, Set Other Modes (P, A, M, B); order of the
 -- operations from writeback.rs.
 use Prim.Native.Nat.{ℕ}
@@ -59,7 +59,3 @@ blendOf mode combiner rgba memory shade n c =
     bytesOf (alone mode (rgba .a) n (Known c)) (mode .«force_blend»)
     (sourceOf (x .p) combiner rgba memory) a (sourceOf (x .m) combiner rgba memory) (factorB (x .b) a c)
     (rgba .a)
-
--- P of a pixel that is opaque
-unfoldable pub ownOf : RenderMode → Combiner → Rgba → Rgba
-ownOf mode combiner rgba = sourceOf (muxOf (mode .«blender_mux») .p) combiner rgba rgba

@@ -1,4 +1,4 @@
--- Coverage: when a pixel blends, and what memory keeps of its samples. Definitions only.
+-- To be believed. Coverage: when a pixel blends, and what memory keeps of its samples. Definitions only.
 -- Source: N64 Programming Manual, RDP chapter, the blender and the coverage unit; N64brew wiki, Reality Display Processor, Set Other Modes
 -- (force_blend, antialias_en, cvg_dest). Memory has three bits of coverage: c stands for c + 1 of the 8 samples of a pixel.
 use Prim.Native.Nat.{ℕ, _+_, _-_, _%_, min}

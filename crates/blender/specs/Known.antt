@@ -1,4 +1,4 @@
--- Whether the colour of an emitted pixel can be told, from what is known of the memory under it: Rust's `color_known`, in its order.
+-- To be believed. Whether the colour of an emitted pixel can be told, from what is known of the memory under it: Rust's `color_known`, in its order.
 -- Definitions only. Source: writeback.rs; the selectors' numbers as in specs/Blend.antt.
 use Prim.Native.Nat.{ℕ}
 use mathlib.Core.Bool.{Bool, true, false, cond, not, _&&_, _||_}
@@ -43,9 +43,3 @@ colorKnown mode alpha n coverage memory =
     (cond (alone mode alpha n coverage) true
     (cond (missing (x .m) memory) false
     (whereUnknown coverage (anyCoverage mode))))
-
--- nothing of the memory enters the pixel's colour: P is not the memory's, and P is stored as it is whatever the coverage
-unfoldable pub opaqueOf : RenderMode → Float → Bool
-opaqueOf mode alpha =
-    let x = muxOf (mode .«blender_mux») in
-    not (eqb (x .p) 1) && (reject mode alpha || not (mode .«force_blend» || mode .antialias))

@@ -1,6 +1,6 @@
--- Pixels of one colour whose blend is mostly worked out once a draw. Definitions only. Source: `blend` and `color_known` of writeback.rs, of whose
+-- Inner vocabulary. Pixels of one colour whose blend is mostly worked out once a draw. Definitions only. Source: `blend` and `color_known` of writeback.rs, of whose
 -- definitions these are parts; that they give the same bytes is proofs/Layers.
-use mathlib.Core.Bool.{Bool, not, _&&_}
+use mathlib.Core.Bool.{Bool, not, _&&_, _||_}
 use lib.Dec.{eqb}
 use lib.Ieee.{Float, binary32, mul}
 use Rattle.num.specs.Color.{f0}
@@ -10,7 +10,17 @@ use Rattle.combiner.specs.declared.Combiner.{Combiner}
 use Rattle.blender.specs.declared.layer.Layer.{Layer}
 use Rattle.blender.specs.Mux.{muxOf}
 use Rattle.blender.specs.Known.{reject}
-use Rattle.blender.specs.Blend.{factorA, factorB, ownOf}
+use Rattle.blender.specs.Blend.{factorA, factorB, sourceOf}
+
+-- nothing of the memory enters the pixel's colour: P is not the memory's, and P is stored as it is whatever the coverage
+unfoldable pub opaqueOf : RenderMode → Float → Bool
+opaqueOf mode alpha =
+    let x = muxOf (mode .«blender_mux») in
+    not (eqb (x .p) 1) && (reject mode alpha || not (mode .«force_blend» || mode .antialias))
+
+-- P of a pixel that is opaque
+unfoldable pub ownOf : RenderMode → Combiner → Rgba → Rgba
+ownOf mode combiner rgba = sourceOf (muxOf (mode .«blender_mux») .p) combiner rgba rgba
 
 -- the blend is forced, P is not the memory's colour and M is, A is not the shade's alpha, B is not the memory's coverage, and M has a share
 unfoldable pub layeredOf : RenderMode → Float → Bool

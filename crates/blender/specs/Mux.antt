@@ -1,4 +1,4 @@
--- The blender's multiplexer: the four selectors of a blend (a * p + b * m) / (a + b). Definitions only.
+-- To be believed. The blender's multiplexer: the four selectors of a blend (a * p + b * m) / (a + b). Definitions only.
 -- Source: N64 Programming Manual, RDP chapter, the blender; N64brew wiki, Reality Display Processor, Set Other Modes. The first cycle's
 -- selectors are bits 31:30, 27:26, 23:22 and 19:18 of the other mode's low word; the 16-bit mux is that word's upper half.
 use Prim.Native.Nat.{ℕ}

@@ -6,8 +6,9 @@ ghost use mathlib.Core.Path.{_≡_};
 ghost use Prim.Native.Nat.{_≤_};
 ghost use Rattle.blender.specs.Mux.{muxOf};
 ghost use Rattle.blender.specs.Coverage.{overflows, blends, clampOf, destinationOf};
-ghost use Rattle.blender.specs.Known.{reject, alone, missing, anyCoverage, colorKnown, opaqueOf};
-ghost use Rattle.blender.specs.Blend.{sourceOf, factorA, factorB, divisorOf, mixedOf, bytesOf, blendOf, ownOf};
+ghost use Rattle.blender.specs.Known.{reject, alone, missing, anyCoverage, colorKnown};
+ghost use Rattle.blender.specs.Layer.{opaqueOf, ownOf};
+ghost use Rattle.blender.specs.Blend.{sourceOf, factorA, factorB, divisorOf, mixedOf, bytesOf, blendOf};
 
 pub mod layer; // pixels of one colour
 

@@ -1,4 +1,4 @@
--- The C interface's answers: document 01's number with the value as one word, and what the combiner gives. Definitions only.
+-- To be believed. The C interface's answers: the number (docs/RULES.md) with the value as one word, and what the combiner gives. Definitions only.
 use Prim.Native.Nat.{ℕ, _+_, _*_}
 use mathlib.Core.Bool.{Bool, true, false}
 use Rattle.mode.specs.declared.Rgba.{Rgba}

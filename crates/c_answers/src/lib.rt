@@ -16,7 +16,7 @@ use pixel::Encoded;
 use pixel::Packed;
 use pixel::Stored;
 
-// Document 01's number and the value: a coverage, 1 for yes, a word, or bytes with the first lowest.
+// The number (docs/RULES.md) and the value: a coverage, 1 for yes, a word, or bytes with the first lowest.
 #[repr(C)]
 pub struct Answer {
     pub number: u32,

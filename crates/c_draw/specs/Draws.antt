@@ -1,4 +1,4 @@
--- A draw in the C interface: its geometry from plain values, and what a pixel of it emits as a struct. Definitions only.
+-- To be believed. A draw in the C interface: its geometry from plain values, and what a pixel of it emits as a struct. Definitions only.
 use mathlib.Core.List.{List, [], _∷_}
 use Rattle.num.specs.Color.{f0}
 use Rattle.raster.specs.declared.Fragment.{Fragment}

@@ -1,4 +1,4 @@
--- The answers of a draw, of a word read and of a run of words as C has them. Definitions only.
+-- To be believed. The answers of a draw, of a word read and of a run of words as C has them. Definitions only.
 use Rattle.draw.specs.Draw.{DrawAnswer}
 use Rattle.words.specs.Read.{WordAnswer}
 use Rattle.runs.specs.Run.{RunAnswer}

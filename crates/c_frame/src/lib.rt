@@ -21,7 +21,7 @@ use raster::Scissor;
 use runs::Run;
 use words::Word;
 
-// Document 01's number and the count of pixels emitted, with repeats.
+// The number (docs/RULES.md) and the count of pixels emitted, with repeats.
 #[repr(C)]
 pub struct DrawnAnswer {
     pub number: u32,

@@ -1,4 +1,4 @@
--- The C interface's plain values and the library's types: the case of an enum that a number stands for, in the order of the declarations of the Rust
+-- To be believed. The C interface's plain values and the library's types: the case of an enum that a number stands for, in the order of the declarations of the Rust
 -- (hle/blender.rs, hle/combiner.rs), and structs field by field. Definitions only.
 use Prim.Native.Nat.{ℕ, _/_, _%_}
 use mathlib.Core.Bool.{Bool, true, false}

@@ -13,8 +13,8 @@ use Rattle.blender.specs.Mux.{muxOf}
 use Rattle.blender.specs.declared.Coverage.{Coverage}
 use Rattle.blender.specs.declared.Coverage.the-variants.{Unknown, Known}
 use Rattle.blender.specs.Coverage.{blends, clampOf, destinationOf}
-use Rattle.blender.specs.Known.{reject, alone, colorKnown, opaqueOf}
-use Rattle.blender.specs.Layer.{layeredOf, steadyOf, layerOf}
+use Rattle.blender.specs.Known.{reject, alone, colorKnown}
+use Rattle.blender.specs.Layer.{opaqueOf, layeredOf, steadyOf, layerOf}
 use Rattle.blender.proofs.Solid.{Opaque, opaque, opaque-known, alone-blend}
 use Rattle.blender.proofs.Layers.{Layered, layered, layer-known, layer-blend, Steady, steady, steady-alone, steady-known, steady-doubt, unshaded-blend}
 use Rattle.cell.specs.declared.Cell.{Cell}

@@ -1,4 +1,4 @@
--- Two pixels that differ only in what is not known. Definitions only. Source: document 00, demand 3, and document 01, "For demand 3".
+-- To be believed. Two pixels that differ only in what is not known. Definitions only. Source: docs/RULES.md, What is not known does not show.
 use mathlib.Core.Path.{_≡_}
 use mathlib.Core.Bool.{true}
 use Rattle.cell.specs.declared.Cell.{Cell}

@@ -1,5 +1,5 @@
--- Mark bytes: mark 1 says that a pixel's colour is known, mark 2 that its coverage is; a mark byte is their sum. Definitions only.
--- Source: document 01, "The frame (ours)". Bytes above 3 are read the same way: odd, and the remainder by 4.
+-- To be believed. Mark bytes: mark 1 says that a pixel's colour is known, mark 2 that its coverage is; a mark byte is their sum. Definitions only.
+-- Source: docs/RULES.md, The frame. Bytes above 3 are read the same way: odd, and the remainder by 4.
 use Prim.Native.Nat.{ℕ, _%_}
 use mathlib.Core.Bool.{Bool, true, false, cond}
 use lib.Dec.{leb, eqb}

@@ -1,4 +1,4 @@
--- Pixels that need less of the rules: one that is opaque, of whose colour the memory has no part; one that is layered, whose colour is a sum with the
+-- Inner vocabulary. Pixels that need less of the rules: one that is opaque, of whose colour the memory has no part; one that is layered, whose colour is a sum with the
 -- memory's; and one with all samples, whose coverage turns on the mode alone. Definitions only, for contracts of inner functions; that they are what the
 -- rules give is proofs/Own.
 use Prim.Native.Nat.{ℕ}
@@ -13,9 +13,7 @@ use Rattle.combiner.specs.declared.Combiner.{Combiner}
 use Rattle.blender.specs.declared.Coverage.{Coverage}
 use Rattle.blender.specs.declared.layer.Layer.{Layer}
 use Rattle.blender.specs.declared.Coverage.the-variants.{Unknown, Known}
-use Rattle.blender.specs.Blend.{ownOf}
-use Rattle.blender.specs.Known.{opaqueOf}
-use Rattle.blender.specs.Layer.{layeredOf, layerOf}
+use Rattle.blender.specs.Layer.{ownOf, layeredOf, layerOf, opaqueOf}
 use Rattle.cell.specs.declared.Cell.{Cell}
 use Rattle.cell.specs.declared.Ink.{Ink}
 use Rattle.cell.specs.declared.Ink.the-variants.{Own, Over}

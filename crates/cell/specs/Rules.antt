@@ -1,4 +1,4 @@
--- Rules F1 to F5 of document 01, "The frame (ours)": what one emitted pixel does to the five bytes of its place in the frame, all on the old bytes.
+-- To be believed. Rules F1 to F5 (docs/RULES.md): what one emitted pixel does to the five bytes of its place in the frame, all on the old bytes.
 -- Definitions only. F1, F3 and F5 rest on `color_known`, `blend` and `destination` of the Rust, whose definitions are crate blender's.
 use Prim.Native.Nat.{ℕ, _-_}
 use mathlib.Core.Bool.{Bool, cond, not, _&&_}

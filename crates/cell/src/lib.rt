@@ -1,4 +1,4 @@
-// Rules F1 to F5 of document 01 on one emitted pixel: the five bytes of a pixel by value, before and after. A byte is read only through what its mark
+// Rules F1 to F5 (docs/RULES.md) on one emitted pixel: the five bytes of a pixel by value, before and after. A byte is read only through what its mark
 // allows; an unmarked one is only ever kept.
 ghost use mathlib.Core.Path.{_≡_};
 ghost use mathlib.Core.Bool.{cond};

@@ -1,4 +1,4 @@
--- The checks of the Rust's `admitted` on three vertices. Definitions only. Source: writeback.rs, `admitted`, its checks in its order; document 02, request S-7,
+-- To be believed. The checks of the Rust's `admitted` on three vertices. Definitions only. Source: writeback.rs, `admitted`, its checks in its order; docs/RULES.md, Admitted draws,
 -- numbers them.
 use Prim.Native.Nat.{ℕ, _+_, _*_}
 use mathlib.Core.Bool.{Bool, true, false, cond, not, _&&_, _||_}

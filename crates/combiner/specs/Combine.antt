@@ -1,4 +1,4 @@
--- The colour that a combiner gives for a shade: the number that each selector names, and (a - b) * c + d of four of them. Definitions only.
+-- To be believed. The colour that a combiner gives for a shade: the number that each selector names, and (a - b) * c + d of four of them. Definitions only.
 -- Source: the N64 Programming Manual's chapter on the color combiner, the N64brew wiki's RDP pages (Set Combine Mode), and Combiner::color of
 -- writeback.rs, which decides what a draw without textures reads: LodFraction is 1.0, Combined and CombinedAlpha are 0.0.
 use Prim.Native.Nat.{ℕ}

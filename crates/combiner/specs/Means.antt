@@ -1,4 +1,4 @@
--- The combiner's answers as numbers and values: for each answer that is an enum, those of every case (`..Means`), and for each call its outcome on every input
+-- To be believed. The combiner's answers as numbers and values: for each answer that is an enum, those of every case (`..Means`), and for each call its outcome on every input
 -- (`..Call`). Definitions only. Source: docs/RULES.md, the numbers; the Rust's Option is a flag and a value.
 use Prim.Native.Nat.{ℕ}
 use mathlib.Core.Bool.{Bool, true, false, cond, _&&_}

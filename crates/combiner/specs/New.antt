@@ -1,4 +1,4 @@
--- Which draws have a combiner, and which one. Definitions only.
+-- To be believed. Which draws have a combiner, and which one. Definitions only.
 -- Source: Combiner::new of writeback.rs. The fields are those of Set Other Modes and Set Combine Mode (N64 Programming Manual, RDP chapters).
 use mathlib.Core.Bool.{Bool, true, false, cond, not, _&&_, _||_}
 use lib.Dec.{eqb}

@@ -1,4 +1,4 @@
--- The colour word of a combiner that gives one constant colour, each channel of it empty or full. Definitions only.
+-- To be believed. The colour word of a combiner that gives one constant colour, each channel of it empty or full. Definitions only.
 -- Source: Combiner::strict_color of writeback.rs; the word has five bits each of red, green and blue from the top (N64 Programming Manual, 16-bit
 -- RGBA frame buffer).
 use Prim.Native.Nat.{ℕ, _+_}

@@ -23,14 +23,15 @@ use Rattle.draw.specs.declared.Accepted.{Accepted}
 use Rattle.draw.specs.declared.Accepted.the-variants as accept
 use Rattle.draw.specs.declared.Drawn.{Drawn}
 use Rattle.draw.specs.declared.Drawn.the-variants as drawn
-use Rattle.frame.specs.Frame.{Frame, Fit}
-use Rattle.paint.specs.Steps.{Drew}
-use Rattle.paint.specs.Pixel.{Room}
+use Rattle.frame.specs.Frame.{Frame}
+use Rattle.frame.specs.Fits.{Fit}
+use Rattle.paint.specs.Pixel.{Drew, Room}
 use Rattle.frame.specs.Checks.{frameRefusal, orElse}
 use Rattle.draw.specs.Checks.{scissorOk, flagsOk, inputsOk, entryRefusal}
 use Rattle.mixer.proofs.Mixes.{new-mixes}
 use Rattle.paint.specs.Pen.{Mixed}
-use Rattle.draw.specs.Draw.{DrawArgs, Plan, emittedBy, admittedPlan, madePlan, refuseOr, planOf, planBy, drawnMeans, Numbered, answerBy, frameBy, drawAnswer, drawFrame}
+use Rattle.draw.specs.Draw.{DrawArgs, Plan, emittedBy, admittedPlan, madePlan, refuseOr, planOf, drawnMeans, Numbered, answerBy, frameBy, drawAnswer, drawFrame}
+use Rattle.draw.specs.Answered.{planBy}
 use Rattle.frame.proofs.Fits.{accepted}
 
 -- ---- the plan that the checks find

@@ -1,4 +1,4 @@
--- Why a draw is turned away: numbers 4 and 5 of document 01, after numbers 1 to 3; 0 means that none of them holds. Definitions only.
+-- To be believed. Why a draw is turned away: numbers 4 and 5 (docs/RULES.md, The numbers), after numbers 1 to 3; 0 means that none of them holds. Definitions only.
 use Prim.Native.Nat.{ℕ, _*_, _%_}
 use mathlib.Core.Bool.{Bool, true, cond, _&&_}
 use mathlib.Core.List.{List, [], _∷_}

@@ -1,5 +1,5 @@
--- A draw: it is turned away with a number, or carried out on the pixels that it emits. Definitions only. Source: document 01, "The frame (ours)" and "Why
--- something is turned away".
+-- To be believed. A draw: it is turned away with a number, or carried out on the pixels that it emits. Definitions only. Source: docs/RULES.md, A draw, Rules F1 to F5
+-- and The numbers.
 use Prim.Native.Nat.{ℕ, zero, suc, _≤_}
 use mathlib.Core.Bool.{Bool, cond}
 use mathlib.Core.List.{List}
@@ -15,8 +15,6 @@ use Rattle.raster.specs.declared.Scissor.{Scissor}
 use Rattle.raster.specs.declared.Geometry.{Geometry}
 use Rattle.raster.specs.Admitted.{admittedOf}
 use Rattle.raster.specs.Emitted.{Emit, geometryEmits}
-use Rattle.draw.specs.declared.Accepted.{Accepted}
-use Rattle.draw.specs.declared.Accepted.the-variants as accepted
 use Rattle.draw.specs.declared.Drawn.{Drawn}
 use Rattle.draw.specs.declared.Drawn.the-variants.{Emitted, Refused}
 use Rattle.frame.specs.Frame.{Frame}
@@ -75,12 +73,7 @@ unfoldable pub planOf : DrawArgs → ℕ → ℕ → Frame → Plan
 planOf d w h f =
     refuseOr (entryRefusal f w h (d .scissor) (d .vertices) (d .present) (d .indices)) (madePlan d w h (newOf (d .uniform) (d .mode)))
 
--- what the code's checks answer, as a plan
-abbrev pub planBy : DrawArgs → ℕ → ℕ → Accepted → Plan
-planBy d w h (accepted.With k) = Plan.accept k (emittedBy d w h k)
-planBy d w h (accepted.Refused n) = Plan.refuse n
-
--- an answer in document 01's terms: its number, and the count of pixels emitted, with repeats
+-- an answer in the terms of docs/RULES.md: its number, and the count of pixels emitted, with repeats
 pub record DrawAnswer : Type 0 where
   pub number : ℕ
   pub pixels : ℕ

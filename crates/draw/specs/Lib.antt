@@ -1,3 +1,4 @@
 -- The definitions that the contracts of `draw` cite.
 pub mod Checks
 pub mod Draw
+pub mod Answered

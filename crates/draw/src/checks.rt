@@ -1,4 +1,4 @@
-// Why a draw is turned away: numbers 1 to 5 of document 01, the first that holds.
+// Why a draw is turned away: numbers 1 to 5 (docs/RULES.md, The numbers), the first that holds.
 ghost use mathlib.Core.Path.{_≡_};
 ghost use Rattle.frame.specs.Frame.{frameOf};
 ghost use Rattle.draw.specs.Checks.{scissorOk, flagsOk, inputsOk, entryRefusal};

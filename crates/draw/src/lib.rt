@@ -1,4 +1,4 @@
-// A draw over the lent frame (document 01, "The frame (ours)"). What it is turned away for is checked before anything is written.
+// A draw over the lent frame (docs/RULES.md, A draw). What it is turned away for is checked before anything is written.
 ghost use mathlib.Core.Path.{_≡_};
 ghost use mathlib.Core.Bool.{true};
 ghost use Prim.Native.Nat.{_≤_};
@@ -7,10 +7,10 @@ ghost use Rattle.raster.specs.Admitted.{admittedOf};
 ghost use Rattle.raster.specs.Area.{Sized};
 ghost use Rattle.raster.specs.Emitted.{geometryEmits};
 ghost use Rattle.frame.specs.Frame.{frameOf};
-ghost use Rattle.paint.specs.Steps.{Drew};
-ghost use Rattle.paint.specs.Pixel.{Room};
+ghost use Rattle.paint.specs.Pixel.{Drew, Room};
 ghost use Rattle.paint.specs.Pen.{Mixed};
-ghost use Rattle.draw.specs.Draw.{drawArgs, planBy, planOf, drawnMeans, drawAnswer, drawFrame, Numbered};
+ghost use Rattle.draw.specs.Draw.{drawArgs, planOf, drawnMeans, drawAnswer, drawFrame, Numbered};
+ghost use Rattle.draw.specs.Answered.{planBy};
 use combiner::Combiner;
 use combiner::Made;
 use mode::CombinerUniform;

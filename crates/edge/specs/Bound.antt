@@ -1,4 +1,4 @@
--- What bounds the edges on four quarter lines: the outermost, and the innermost as the first and the last full pixel. Definitions only.
+-- Inner vocabulary. What bounds the edges on four quarter lines: the outermost, and the innermost as the first and the last full pixel. Definitions only.
 use Prim.Native.Nat.{ℕ, _+_, _/_, min, max}
 use mathlib.Core.Bool.{Bool, true, false}
 use mathlib.Core.List.{List}

@@ -1,4 +1,4 @@
--- An edge in whole numbers: its roundings, which are the Rust's, and its x on a quarter line. An edge's x is in 2^-16 of a pixel, a line's x in eighths of a pixel.
+-- To be believed. An edge in whole numbers: its roundings, which are the Rust's, and its x on a quarter line. An edge's x is in 2^-16 of a pixel, a line's x in eighths of a pixel.
 -- Definitions only.
 use Prim.Native.Nat.{ℕ, zero, suc, _+_, _-_, _/_, _%_, max}
 use lib.IntN.{ℤ, pos, negsuc, negℤ, _+ℤ_, _-ℤ_, _*ℤ_}

@@ -1,4 +1,4 @@
--- How large an edge may be, so that nothing overflows. Definitions only.
+-- Inner vocabulary. How large an edge may be, so that nothing overflows. Definitions only.
 use Prim.Native.Nat.{_≤_}
 use lib.IntN.{natAbs}
 use Rattle.edge.specs.declared.Edge.{Edge}

@@ -1,7 +1,6 @@
--- What lies between two edges on a quarter line, and an edge on four lines. Which side is the left one is the Rust's. Definitions only.
-use Prim.Native.Nat.{ℕ, _+_}
+-- To be believed. What lies between two edges on a quarter line. Which side is the left one is the Rust's. Definitions only.
+use Prim.Native.Nat.{ℕ}
 use mathlib.Core.Bool.{Bool, true, false}
-use mathlib.Core.List.{List, [], _∷_, map}
 use lib.IntN.{ℤ}
 use Rattle.edge.specs.declared.Edge.{Edge}
 use Rattle.edge.specs.declared.Span.{Span}
@@ -14,7 +13,3 @@ spanBy false m n = record { l = n; r = m }
 
 unfoldable pub spanOf : Edge → Edge → Bool → ℕ → Span
 spanOf major other rightward n = spanBy rightward (crossOf major n) (crossOf other n)
-
--- an edge on four quarter lines from n
-unfoldable pub fourOf : Edge → ℕ → List ℤ
-fourOf e n = map (λ s. crossOf e (n + s)) (0 ∷ 1 ∷ 2 ∷ 3 ∷ [])

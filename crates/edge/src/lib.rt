@@ -5,7 +5,8 @@ ghost use lib.IntN.{pos, natAbs};
 ghost use lib.Signed.{_≤ℤ_};
 ghost use Rattle.edge.specs.Limits.{Tame};
 ghost use Rattle.edge.specs.Edge.{quantized, awayDiv, atLeastOne, edgeAt, crossOf};
-ghost use Rattle.edge.specs.Span.{spanOf, fourOf};
+ghost use Rattle.edge.specs.Span.{spanOf};
+ghost use Rattle.edge.specs.Lines.{fourOf};
 ghost use Rattle.edge.specs.Bound.{outerOf, outermostOf, clampOf, rangeOf, edgeOfRows, fullFrom, fullTo};
 use range::Range;
 

@@ -9,8 +9,10 @@ use lib.Signed.{ltZ, leZ}
 use borrow.Author.Tests.{lt-ltb, le-ltb, lt-leb, ltb-true, leb-true}
 use Rattle.edge.specs.declared.Edge.{Edge}
 use Rattle.edges.specs.declared.Tri.{Tri}
-use Rattle.edge.specs.Span.{spanOf, fourOf}
-use Rattle.edges.specs.Span.{lineOf, edgesOf, rowOf}
+use Rattle.edge.specs.Span.{spanOf}
+use Rattle.edge.specs.Lines.{fourOf}
+use Rattle.edges.specs.Span.{lineOf, edgesOf}
+use Rattle.edges.specs.Lines.{rowOf}
 
 -- ---- order
 not-lt-up : (z : ℤ) (m n : ℕ) → m ≤ n → leZ z (pos m) ≡ true → ltZ (pos n) z ≡ false

@@ -1,4 +1,4 @@
--- The parts of a row and of the rows that have to be looked at, and the part of a row that is full. The Rust looks from the leftmost edge to the
+-- Inner vocabulary. The parts of a row and of the rows that have to be looked at, and the part of a row that is full. The Rust looks from the leftmost edge to the
 -- rightmost, and from the top corner's row to the bottom corner's. Definitions only.
 use Prim.Native.Nat.{ℕ}
 use mathlib.Core.Path.{_≡_}

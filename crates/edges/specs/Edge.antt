@@ -1,4 +1,4 @@
--- A triangle's edges in whole numbers, after the edge coefficients of the N64 Programming Manual and the N64brew wiki's RDP pages; the
+-- To be believed. A triangle's edges in whole numbers, after the edge coefficients of the N64 Programming Manual and the N64brew wiki's RDP pages; the
 -- roundings are the Rust's. Corners are in quarters of a pixel, an edge's x in 2^-16 of a pixel, a line's x in eighths of a pixel.
 -- Definitions only.
 use Prim.Native.Nat.{ℕ}

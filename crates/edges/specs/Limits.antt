@@ -1,4 +1,4 @@
--- How large corners and edges may be, so that nothing overflows: coordinates of at most 2,048 pixels either way, which holds what the Rust's
+-- Inner vocabulary. How large corners and edges may be, so that nothing overflows: coordinates of at most 2,048 pixels either way, which holds what the Rust's
 -- in_range lets through. Definitions only.
 use Prim.Native.Nat.{_≤_}
 use mathlib.Core.List.{List}

@@ -1,4 +1,4 @@
--- The eight samples of a pixel: four rows of two, every other one of a four by four grid (N64 Programming Manual and N64brew wiki, coverage).
+-- To be believed. The eight samples of a pixel: four rows of two, every other one of a four by four grid (N64 Programming Manual and N64brew wiki, coverage).
 -- Their positions, in eighths of a pixel, and their bits are the Rust's. Definitions only.
 use Prim.Native.Nat.{ℕ, _+_, _*_, _%_}
 use mathlib.Core.Bool.{Bool, true, false, _&&_}

@@ -1,4 +1,4 @@
--- What a triangle spans on a quarter line. The major edge runs from the first corner to the last; the other two meet at the middle one. These are
+-- To be believed. What a triangle spans on a quarter line. The major edge runs from the first corner to the last; the other two meet at the middle one. These are
 -- the high, middle and low edges of the N64 Programming Manual and the N64brew wiki's RDP pages. Which lines count, which side is the left one and
 -- that the lower edge starts at the middle corner itself is the Rust's. Definitions only.
 use Prim.Native.Nat.{ℕ, _+_, _*_}
@@ -7,10 +7,9 @@ use mathlib.Core.List.{List, [], _∷_, map}
 use lib.IntN.{ℤ, pos, _*ℤ_}
 use lib.Signed.{ltZ, leZ}
 use Rattle.edges.specs.declared.Corner.{Corner}
-use Rattle.edge.specs.declared.Edge.{Edge}
 use Rattle.edges.specs.declared.Tri.{Tri}
 use Rattle.edge.specs.declared.Span.{Span}
-use Rattle.edge.specs.Span.{spanOf, fourOf}
+use Rattle.edge.specs.Span.{spanOf}
 use Rattle.edges.specs.declared.Edges.{Edges}
 use Rattle.edges.specs.Edge.{slopeOf, cornerAt, edgeFrom}
 
@@ -49,12 +48,3 @@ edgesOf t y = record {
   left = map (λ s. lineOf t (y * 4 + s) .l) (0 ∷ 1 ∷ 2 ∷ 3 ∷ []);
   right = map (λ s. lineOf t (y * 4 + s) .r) (0 ∷ 1 ∷ 2 ∷ 3 ∷ []);
 }
-
--- ---- rows in which the same two edges bound the four lines
--- from the major edge to the other, or the other way round
-abbrev pub edgesBy : Bool → List ℤ → List ℤ → Edges
-edgesBy true m n = record { left = m; right = n }
-edgesBy false m n = record { left = n; right = m }
-
-unfoldable pub rowOf : Edge → Edge → Bool → ℕ → Edges
-rowOf major other rightward n = edgesBy rightward (fourOf major n) (fourOf other n)

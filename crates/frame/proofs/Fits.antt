@@ -14,7 +14,8 @@ use Rattle.cell.specs.Marks.{highestMark, coverageMarked, coverageOf}
 use Rattle.cell.specs.Rules.{orZero}
 use Rattle.cell.proofs.Alike.{never}
 use Rattle.blender.specs.declared.Coverage.the-variants.{Unknown, Known}
-use Rattle.frame.specs.Frame.{Frame, Fit, putCell}
+use Rattle.frame.specs.Frame.{Frame, putCell}
+use Rattle.frame.specs.Fits.{Fit}
 use Rattle.frame.specs.Checks.{sizeOk, sizesOk, lengthsOk, markOk, marksOk, frameRefusal}
 
 pub both-left : (a b : Bool) → (a && b) ≡ true → a ≡ true

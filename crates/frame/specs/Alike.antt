@@ -1,4 +1,4 @@
--- Two frames that differ only in what is not known. Definitions only. Source: document 01, "For demand 3".
+-- To be believed. Two frames that differ only in what is not known. Definitions only. Source: docs/RULES.md, What is not known does not show.
 use Prim.Native.Nat.{ℕ}
 use mathlib.Core.Path.{_≡_}
 use lib.ListN.{length}

@@ -1,13 +1,10 @@
--- Why something is turned away: numbers 1 to 3 of document 01, in their order; 0 means that none of them holds. Definitions only.
+-- To be believed. Why something is turned away: numbers 1 to 3 (docs/RULES.md, The numbers), in their order; 0 means that none of them holds. Definitions only.
 use Prim.Native.Nat.{ℕ, zero, suc, _*_}
-use mathlib.Core.Path.{_≡_}
-use mathlib.Core.Bool.{Bool, true, false, cond, not, _&&_, _||_}
+use mathlib.Core.Bool.{Bool, true, cond, not, _&&_, _||_}
 use mathlib.Core.List.{List, [], _∷_}
 use lib.Dec.{leb, eqb}
 use lib.ListN.{length}
 use Rattle.cell.specs.Marks.{highestMark, coverageMarked}
-use Rattle.frame.specs.declared.checks.Told.{Told}
-use Rattle.frame.specs.declared.checks.Told.the-variants.{Good, Bad, Mixed}
 use Rattle.frame.specs.Frame.{Frame}
 
 -- 1: width and height are 1 to 1,024
@@ -29,20 +26,6 @@ unfoldable pub marksOk : List ℕ → List ℕ → Bool
 marksOk [] marks = true
 marksOk (c ∷ cs) [] = true
 marksOk (c ∷ cs) (m ∷ ms) = markOk m c && marksOk cs ms
-
--- what can be asked of marks alone or of coverages alone: that every number of a list passes a test
-unfoldable pub every : (ℕ → Bool) → List ℕ → Bool
-every test [] = true
-every test (n ∷ ns) = test n && every test ns
-
-abbrev pub atMost : ℕ → ℕ → Bool
-atMost most n = leb n most
-
--- what is told of a part of the frame
-unfoldable pub Tells : List ℕ → List ℕ → Told → Type 0
-Tells cs ms Good = true ≡ marksOk cs ms
-Tells cs ms Bad = false ≡ marksOk cs ms
-Tells cs ms Mixed = every (atMost highestMark) ms ≡ true
 
 -- the first of numbers 1 to 3 that holds
 unfoldable pub frameRefusal : Frame → ℕ → ℕ → ℕ

@@ -1,5 +1,7 @@
 -- The definitions that the contracts of `frame` cite, what may be loaded, and when two frames are alike.
 pub mod Frame
+pub mod Fits
 pub mod Loads
 pub mod Checks
+pub mod Told
 pub mod Alike

@@ -1,4 +1,4 @@
--- What may be loaded of a pixel: a colour or coverage byte only where the mark says that it is known. Definitions only. Source: document 01, "The frame (ours)".
+-- Inner vocabulary. What may be loaded of a pixel: a colour or coverage byte only where the mark says that it is known. Definitions only. Source: docs/RULES.md, The frame.
 use Prim.Native.Nat.{ℕ, _+_, _*_, _<_, _≤_}
 use mathlib.Core.Path.{_≡_}
 use mathlib.Core.Bool.{Bool, true, cond}

@@ -1,4 +1,4 @@
-// Why a call on the frame is turned away: numbers 1 to 3 of document 01, the first that holds.
+// Why a call on the frame is turned away: numbers 1 to 3 (docs/RULES.md, The numbers), the first that holds.
 ghost use mathlib.Core.Path.{_≡_};
 ghost use mathlib.Core.Bool.{true, _&&_};
 ghost use Prim.Native.Nat.{_*_, _<_, _≤_};
@@ -7,7 +7,8 @@ ghost use lib.ListN.{length, getD};
 ghost use Rattle.cell.specs.Marks.{highestMark, coverageMarked};
 ghost use Rattle.frame.specs.Frame.{frameOf};
 ghost use Rattle.frame.specs.Loads.{CoverageThere};
-ghost use Rattle.frame.specs.Checks.{sizeOk, sizesOk, markOk, marksOk, every, atMost, Tells, frameRefusal};
+ghost use Rattle.frame.specs.Checks.{sizeOk, sizesOk, markOk, marksOk, frameRefusal};
+ghost use Rattle.frame.specs.Told.{every, atMost, Tells};
 use crate::load;
 
 const SIZE: u32 = 1024;

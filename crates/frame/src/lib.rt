@@ -1,9 +1,10 @@
-// The lent frame: three slices, of colour bytes, coverages and marks (document 01, "The frame (ours)"). A colour or coverage byte is read only where its mark
+// The lent frame: three slices, of colour bytes, coverages and marks (docs/RULES.md, The frame). A colour or coverage byte is read only where its mark
 // says that it is known, and written only where it then is.
 ghost use mathlib.Core.Path.{_≡_};
 ghost use Prim.Native.Nat.{_<_};
 ghost use lib.ListN.{length};
-ghost use Rattle.frame.specs.Frame.{Fit, frameOf, cellAt, knownCell, putIf, putKnown};
+ghost use Rattle.frame.specs.Frame.{frameOf, cellAt};
+ghost use Rattle.frame.specs.Fits.{Fit, knownCell, putIf, putKnown};
 ghost use Rattle.frame.specs.Loads.{Loadable};
 use cell::Cell;
 

@@ -1,4 +1,4 @@
--- A combiner resolved once for a draw: each of its inputs as a constant or a part of the shade, and the colour that this gives. Definitions only.
+-- Inner vocabulary. A combiner resolved once for a draw: each of its inputs as a constant or a part of the shade, and the colour that this gives. Definitions only.
 -- Source: Combiner::color of writeback.rs, of which this is a faster form; that the colours are the same is the law `new-mixes` (proofs/Mixes).
 use mathlib.Core.Bool.{Bool, true, false}
 use mathlib.Core.List.{[], _∷_}

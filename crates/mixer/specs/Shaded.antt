@@ -1,4 +1,4 @@
--- Whether a combiner's colour turns on the shade: whether one of its eight selectors names it. Definitions only.
+-- Inner vocabulary. Whether a combiner's colour turns on the shade: whether one of its eight selectors names it. Definitions only.
 -- Source: the inputs Shade and Shade Alpha of the color combiner (N64 Programming Manual, chapter on the color combiner; Combiner::color of writeback.rs).
 use mathlib.Core.Bool.{Bool, _||_}
 use mathlib.Core.List.{[], _∷_}

@@ -18,7 +18,8 @@ use lib.Ieee.Nearest.{closest, closest-same, nearest-ge, div-same}
 use lib.Ieee.Order.{drop}
 use lib.Ieee.Positive.{num, den, den-pos}
 use lib.Ieee.Scale.{grid, round-val}
-use Rattle.num.specs.Whole.{near, floor, Coarse}
+use Rattle.num.specs.Whole.{near, floor}
+use Rattle.num.specs.Coarse.{Coarse}
 use Rattle.num.proofs.Scaled.{few}
 
 -- ---- the pattern

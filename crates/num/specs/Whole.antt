@@ -1,8 +1,6 @@
--- Floats to whole numbers: what the port's roundings and indices are, on the exact value of a float. Definitions only.
+-- To be believed. Floats to whole numbers: what the port's roundings and indices are, on the exact value of a float. Definitions only.
 -- `fin s m e` has the size m * up e / down e.
-use Prim.Native.Nat.{ℕ, _+_, _*_, _/_, _-_, _^_, _<_, min}
-use mathlib.Core.Path.{_≡_}
-use mathlib.Core.Logic.{_⊎_}
+use Prim.Native.Nat.{ℕ, _+_, _*_, _/_, _-_, min}
 use mathlib.Core.Bool.{false, cond}
 use lib.IntN.{ℤ, pos, negℤ}
 use lib.Ieee.{Float, nan, inf, fin, binary32, up, down, mul}
@@ -21,10 +19,6 @@ floor a b = a / b
 
 abbrev pub ceil : ℕ → ℕ → ℕ
 ceil a b = (a + (b - 1)) / b
-
--- a / b is a multiple of 2 ^ -26, or below 1 / 8, as an f32 is: other f64s lie so close below a half that a sum takes them for one
-abbrev pub Coarse : ℕ → ℕ → Type 0
-Coarse a b = ((q : ℕ) × (a * 2 ^ 26 ≡ q * b)) ⊎ (8 * a < b)
 
 -- A float's size by one of these, at most `cap`. A NaN and what is below zero give 0, as Rust's `.max(0.0) as usize` and its `as u8` do.
 abbrev pub whole : (ℕ → ℕ → ℕ) → ℕ → Float → ℕ

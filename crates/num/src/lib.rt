@@ -7,7 +7,8 @@ ghost use lib.Ieee.{lt, neg};
 ghost use lib.Ieee.Exact.{HasValue};
 ghost use lib.Ieee.Positive.{num, den};
 ghost use Rattle.num.specs.Color.{f0, clamped, channelOf, isFinite, totalLe};
-ghost use Rattle.num.specs.Whole.{whole, near, Coarse, floor, ceil, indexCap, byteOf, quarterOf};
+ghost use Rattle.num.specs.Whole.{whole, near, floor, ceil, indexCap, byteOf, quarterOf};
+ghost use Rattle.num.specs.Coarse.{Coarse};
 
 // No bound of a frame or of a scissor (at most 65,535 + 65,535) is above this: what is cut off here is cut off by them too.
 const INDEX_LIMIT: f32 = 131072.0;

@@ -1,4 +1,4 @@
--- A colour as a 16-bit word. Source: the N64 Programming Manual, 16-bit RGBA pixels, and N64brew's RDP pages on the memory
+-- To be believed. A colour as a 16-bit word. Source: the N64 Programming Manual, 16-bit RGBA pixels, and N64brew's RDP pages on the memory
 -- interface and dithering. Definitions only.
 use Prim.Native.Nat.{ℕ, _+_, _*_, _/_, _%_, min}
 use mathlib.Core.Bool.{cond}

@@ -1,5 +1,5 @@
--- A depth as a 16-bit word. Source: the N64 Programming Manual's Z buffer format, a floating format of eight ranges, and
--- document 01 for `pack_depth`, whose Rust cannot be had; that the depth is cut and not rounded is a reading (docs/DECISIONS.md). Definitions only.
+-- To be believed. A depth as a 16-bit word. Source: the N64 Programming Manual's Z buffer format, a floating format of eight ranges, and
+-- docs/RULES.md, Packing, for `pack_depth`, whose Rust cannot be had; that the depth is cut and not rounded is a reading (docs/DECISIONS.md). Definitions only.
 use Prim.Native.Nat.{ℕ, _+_, _-_, _*_, _/_, _^_, _≤_, _<_}
 use mathlib.Core.Bool.{cond}
 use mathlib.Core.List.{List, [], _∷_}

@@ -1,4 +1,4 @@
--- The thresholds of ordered dithering, by the pixel's place in a square of 4 x 4. Source: the N64 Programming Manual's RGB dither
+-- To be believed. The thresholds of ordered dithering, by the pixel's place in a square of 4 x 4. Source: the N64 Programming Manual's RGB dither
 -- modes (0 magic square, 1 Bayer, 2 noise, 3 none) and N64brew's RDP pages for the two squares. Definitions only.
 use Prim.Native.Nat.{ℕ, _+_, _*_, _%_}
 use mathlib.Core.Bool.{cond, _||_}

@@ -1,4 +1,4 @@
--- The two bytes that a writer puts into memory for a pixel. Source: coherence.rs, whose image formats and sizes are those of Set Color
+-- To be believed. The two bytes that a writer puts into memory for a pixel. Source: coherence.rs, whose image formats and sizes are those of Set Color
 -- Image in the N64 Programming Manual: fmt 0 RGBA, 1 YUV, 2 colour index, 3 intensity and alpha, 4 intensity; siz 0 to 3 for
 -- 4, 8, 16 and 32 bits a pixel. Definitions only.
 use Prim.Native.Nat.{ℕ, _+_, _-_, _*_, _/_, _%_, _^_, max}

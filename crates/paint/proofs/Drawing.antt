@@ -12,9 +12,10 @@ use Rattle.combiner.specs.declared.Combiner.{Combiner}
 use Rattle.raster.specs.Parts.{from}
 use Rattle.raster.specs.Emitted.{Emit}
 use Rattle.raster.proofs.Loops.{Going, going-start, going-fits, going-more, going-done}
-use Rattle.frame.specs.Frame.{Frame, Fit}
-use Rattle.paint.specs.Steps.{Drew, stepFrame}
-use Rattle.paint.specs.Pixel.{Room}
+use Rattle.frame.specs.Frame.{Frame}
+use Rattle.frame.specs.Fits.{Fit}
+use Rattle.paint.specs.Steps.{stepFrame}
+use Rattle.paint.specs.Pixel.{Drew, Room}
 
 -- ---- room
 module _ {w b : ℕ} {f : Frame} (r : Room w b f) where

@@ -9,8 +9,7 @@ use lib.Ieee.{Float}
 use lib.ListN.{length, getD, set, length-set}
 use Rattle.blender.specs.declared.Coverage.the-variants.{Unknown, Known}
 use Rattle.blender.specs.declared.layer.Layer.{Layer}
-use Rattle.blender.specs.Known.{opaqueOf}
-use Rattle.blender.specs.Layer.{steadyOf}
+use Rattle.blender.specs.Layer.{opaqueOf, steadyOf}
 use Rattle.edges.specs.Sample.{countOf}
 use Rattle.cell.specs.declared.Cell.{Cell}
 use Rattle.cell.specs.declared.Colors.{Colors}
@@ -21,11 +20,12 @@ use Rattle.cell.proofs.Own.{own-full, over-full}
 use Rattle.raster.specs.Parts.{from}
 use Rattle.raster.specs.Emitted.{Emit}
 use Rattle.raster.proofs.Parts.{from-more, from-none}
-use Rattle.frame.specs.Frame.{Frame, Fit, frameOf, cellAt, putCell, putIf}
+use Rattle.frame.specs.Frame.{Frame, frameOf, cellAt, putCell}
+use Rattle.frame.specs.Fits.{Fit, putIf}
 use Rattle.frame.specs.Loads.{colorsAt, colorsIf}
 use Rattle.paint.specs.declared.pen.Pen.{Pen}
-use Rattle.paint.specs.Steps.{Drew, sourceOf, stepFrame}
-use Rattle.paint.specs.Pixel.{emitOf, Room}
+use Rattle.paint.specs.Steps.{sourceOf, stepFrame}
+use Rattle.paint.specs.Pixel.{Drew, emitOf, Room}
 use Rattle.paint.specs.Pen.{Even}
 use Rattle.paint.specs.Fill.{Long, fullAt, filledAt, laidAt, one}
 use Rattle.paint.proofs.Fits.{fit-step}

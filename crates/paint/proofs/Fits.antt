@@ -11,7 +11,8 @@ use Rattle.cell.specs.Rules.{cellStep}
 use Rattle.cell.proofs.Alike.{mark-after, coverage-after}
 use Rattle.raster.specs.Emitted.{Emit}
 use Rattle.raster.proofs.Placed.{Placed}
-use Rattle.frame.specs.Frame.{Frame, cellAt, Fit}
+use Rattle.frame.specs.Frame.{Frame, cellAt}
+use Rattle.frame.specs.Fits.{Fit}
 use Rattle.frame.proofs.Fits.{mark-good, put-fit}
 use Rattle.paint.specs.Steps.{sourceOf, stepFrame, drawList}
 

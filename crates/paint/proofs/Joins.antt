@@ -15,10 +15,11 @@ use Rattle.raster.specs.declared.Fragment.the-variants.{Empty, Covered}
 use Rattle.raster.specs.Emitted.{Emit, shown, covered, emits}
 use Rattle.raster.specs.Parts.{from}
 use Rattle.raster.proofs.Parts.{parts-bound, from-more, from-none}
-use Rattle.frame.specs.Frame.{Frame, Fit}
+use Rattle.frame.specs.Frame.{Frame}
+use Rattle.frame.specs.Fits.{Fit}
 use Rattle.paint.specs.declared.pen.Pen.{Pen}
-use Rattle.paint.specs.Steps.{Drew, stepFrame}
-use Rattle.paint.specs.Pixel.{emitOf}
+use Rattle.paint.specs.Steps.{stepFrame}
+use Rattle.paint.specs.Pixel.{Drew, emitOf}
 use Rattle.paint.specs.Pen.{ownPixel}
 use Rattle.paint.proofs.Drawing.{drew-as}
 

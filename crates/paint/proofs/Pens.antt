@@ -15,10 +15,9 @@ use Rattle.mixer.specs.Shaded.{shadeUsed}
 use Rattle.mixer.proofs.Flat.{flat-color}
 use Rattle.blender.specs.declared.Mux.{Mux}
 use Rattle.blender.specs.Mux.{muxOf}
-use Rattle.blender.specs.Blend.{sourceOf, ownOf}
+use Rattle.blender.specs.Blend.{sourceOf}
+use Rattle.blender.specs.Layer.{ownOf, layeredOf, steadyOf, layerOf, opaqueOf}
 use Rattle.blender.specs.declared.layer.Layer.{Layer}
-use Rattle.blender.specs.Known.{opaqueOf}
-use Rattle.blender.specs.Layer.{layeredOf, steadyOf, layerOf}
 use Rattle.blender.proofs.Solid.{opaque}
 use Rattle.blender.proofs.Layers.{layered, steady}
 use Rattle.cell.specs.declared.Colors.{Colors}
@@ -29,11 +28,13 @@ use Rattle.vertex.specs.declared.row.ShadeRow.{ShadeRow}
 use Rattle.vertex.specs.Row.{shadeOn}
 use Rattle.edges.specs.Sample.{countOf}
 use Rattle.raster.specs.declared.Fragment.the-variants.{Empty}
-use Rattle.raster.specs.Emitted.{Emit, shown, covered, emits, mixedFragment}
-use Rattle.frame.specs.Frame.{Frame, Fit, cellAt, putCell}
+use Rattle.raster.specs.Emitted.{Emit, shown, covered, emits}
+use Rattle.raster.specs.Fragments.{mixedFragment}
+use Rattle.frame.specs.Frame.{Frame, cellAt, putCell}
+use Rattle.frame.specs.Fits.{Fit}
 use Rattle.paint.specs.declared.pen.Pen.{Pen}
-use Rattle.paint.specs.Steps.{Drew, stepFrame}
-use Rattle.paint.specs.Pixel.{emitOf}
+use Rattle.paint.specs.Steps.{stepFrame}
+use Rattle.paint.specs.Pixel.{Drew, emitOf}
 use Rattle.paint.proofs.Fits.{fit-step}
 use Rattle.paint.specs.Pen.{Inked, Mixed, Even, Own, ownPixel, shadedPixel}
 

@@ -20,9 +20,10 @@ use Rattle.cell.proofs.Alike.{cell-alike, kept-colors, kept-coverage}
 use Rattle.raster.specs.declared.Fragment.{Fragment}
 use Rattle.raster.specs.declared.Fragment.the-variants.{Empty, Covered}
 use Rattle.raster.specs.Emitted.{emits}
-use Rattle.frame.specs.Frame.{Frame, Fit, frameOf, cellAt, putCell, knownCell, putIf, putKnown}
-use Rattle.paint.specs.Steps.{Drew, stepFrame}
-use Rattle.paint.specs.Pixel.{emitOf, samplesOf, Counted}
+use Rattle.frame.specs.Frame.{Frame, frameOf, cellAt, putCell}
+use Rattle.frame.specs.Fits.{Fit, knownCell, putIf, putKnown}
+use Rattle.paint.specs.Steps.{stepFrame}
+use Rattle.paint.specs.Pixel.{Drew, emitOf, samplesOf, Counted}
 use Rattle.paint.proofs.Fits.{fit-step}
 
 module _ (mode : RenderMode) (k : Combiner) (f : Frame) (pixel mask : ℕ) (color : Rgba) (shade : Float) where

@@ -1,4 +1,4 @@
--- A run of pixels of one colour with all their samples, stored one after the other. Definitions only.
+-- Inner vocabulary. A run of pixels of one colour with all their samples, stored one after the other. Definitions only.
 use mathlib.Core.Path.{_≡_}
 use mathlib.Core.Bool.{Bool}
 use mathlib.Core.List.{List, [], _∷_}

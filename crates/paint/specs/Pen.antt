@@ -1,4 +1,4 @@
--- What does not turn on the pixel, worked out once a draw. Definitions only.
+-- Inner vocabulary. What does not turn on the pixel, worked out once a draw. Definitions only.
 use mathlib.Core.Path.{_≡_}
 use mathlib.Core.Bool.{Bool, true, cond, _||_}
 use mathlib.Core.List.{List}
@@ -13,8 +13,7 @@ use Rattle.mixer.specs.declared.Mixer.{Mixer}
 use Rattle.combiner.specs.Combine.{colorOf, fullShade}
 use Rattle.mixer.specs.Mixer.{colorValue, mixedBy, mixerOf}
 use Rattle.blender.specs.Mux.{muxOf}
-use Rattle.blender.specs.Known.{opaqueOf}
-use Rattle.blender.specs.Layer.{layeredOf, steadyOf, layerOf}
+use Rattle.blender.specs.Layer.{opaqueOf, layeredOf, steadyOf, layerOf}
 use Rattle.cell.specs.declared.Colors.{Colors}
 use Rattle.cell.specs.Own.{colorsOf, ownColors, sevenOf, setsOf}
 use Rattle.vertex.specs.declared.row.ShadeRow.{ShadeRow}
@@ -22,7 +21,8 @@ use Rattle.vertex.specs.Row.{shadeOn}
 use Rattle.edges.specs.declared.Edges.{Edges}
 use Rattle.edges.specs.Sample.{maskOf}
 use Rattle.raster.specs.declared.Fragment.the-variants.{Empty}
-use Rattle.raster.specs.Emitted.{Emit, shown, covered, emits, mixedFragment, coloredFragment}
+use Rattle.raster.specs.Emitted.{Emit, shown, covered, emits}
+use Rattle.raster.specs.Fragments.{mixedFragment, coloredFragment}
 use Rattle.paint.specs.declared.pen.Pen.{Pen}
 
 -- its flags say no more than what holds

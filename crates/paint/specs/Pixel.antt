@@ -1,4 +1,4 @@
--- One emitted pixel, the room that a frame has for the pixels of its rows, and a part of a row with all its samples. Definitions only.
+-- Inner vocabulary. What a part of a draw does, one emitted pixel, the room that a frame has for the pixels of its rows, and a part of a row with all its samples. Definitions only.
 use Prim.Native.Nat.{ℕ, _*_, _≤_, _<_}
 use mathlib.Core.Path.{_≡_}
 use lib.Ieee.{Float}
@@ -10,7 +10,18 @@ use Rattle.edges.specs.Sample.{countOf, maskOf}
 use Rattle.raster.specs.declared.Fragment.{Fragment}
 use Rattle.raster.specs.declared.Fragment.the-variants.{Empty, Covered}
 use Rattle.raster.specs.Emitted.{Emit}
-use Rattle.frame.specs.Frame.{Frame, Fit}
+use Rattle.frame.specs.Frame.{Frame}
+use Rattle.frame.specs.Fits.{Fit}
+use mathlib.Core.List.{List}
+use Rattle.mode.specs.declared.RenderMode.{RenderMode}
+use Rattle.combiner.specs.declared.Combiner.{Combiner}
+use Rattle.raster.specs.Ran.{Ran}
+use Rattle.paint.specs.Steps.{stepFrame}
+
+-- what a part of a draw does that emits es
+pub record Drew (mode : RenderMode) (k : Combiner) (n : ℕ) (es : List Emit) (before after : Frame) (count : ℕ) : Type 0 where
+  pub ran : Ran (stepFrame mode k) es before after count
+  pub fit : Fit n after
 
 abbrev pub emitOf : ℕ → ℕ → Rgba → Float → Emit
 emitOf pixel mask color shade = record { pixel = pixel; mask = mask; color = color; shade = shade }

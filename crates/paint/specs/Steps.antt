@@ -1,14 +1,12 @@
--- What emitted pixels do to the frame, one after the other. Definitions only. Source: document 01, "The frame (ours)".
-use Prim.Native.Nat.{ℕ}
+-- To be believed. What emitted pixels do to the frame, one after the other. Definitions only. Source: docs/RULES.md, Rules F1 to F5.
 use mathlib.Core.List.{List, foldl}
 use Rattle.mode.specs.declared.RenderMode.{RenderMode}
 use Rattle.combiner.specs.declared.Combiner.{Combiner}
 use Rattle.edges.specs.Sample.{countOf}
 use Rattle.cell.specs.declared.Source.{Source}
 use Rattle.cell.specs.Rules.{cellStep}
-use Rattle.raster.specs.Parts.{Ran}
 use Rattle.raster.specs.Emitted.{Emit}
-use Rattle.frame.specs.Frame.{Frame, Fit, cellAt, putCell}
+use Rattle.frame.specs.Frame.{Frame, cellAt, putCell}
 
 -- what the rules look at of an emitted pixel
 abbrev pub sourceOf : Emit → Source
@@ -21,8 +19,3 @@ stepFrame mode k f e = putCell f (e .pixel) (cellStep mode k (sourceOf e) (cellA
 -- a list of emitted pixels, one after the other, each on the bytes just before it
 abbrev pub drawList : RenderMode → Combiner → Frame → List Emit → Frame
 drawList mode k f es = foldl (stepFrame mode k) f es
-
--- what a part of a draw does that emits es
-pub record Drew (mode : RenderMode) (k : Combiner) (n : ℕ) (es : List Emit) (before after : Frame) (count : ℕ) : Type 0 where
-  pub ran : Ran (stepFrame mode k) es before after count
-  pub fit : Fit n after

@@ -1,4 +1,4 @@
-// Emitted pixels on the lent frame (document 01, "The frame (ours)"): what does not turn on the pixel, one pixel, a run of full ones, and the pixels of a
+// Emitted pixels on the lent frame (docs/RULES.md, Rules F1 to F5): what does not turn on the pixel, one pixel, a run of full ones, and the pixels of a
 // triangle's row.
 pub mod pen; // what does not turn on the pixel
 pub mod pixels; // one emitted pixel

@@ -1,4 +1,4 @@
--- The single-pixel calls: for each answer that is an enum, document 01's number and values of every case (`..Means`), and for each call its outcome on every
+-- To be believed. The single-pixel calls: for each answer that is an enum, the number (docs/RULES.md) and values of every case (`..Means`), and for each call its outcome on every
 -- input (`..Call`). Definitions only.
 use Prim.Native.Nat.{ℕ}
 use mathlib.Core.Bool.{Bool, true, false, _&&_}

@@ -1,4 +1,4 @@
--- Number 11 of document 01, "Why something is turned away": what a single-pixel call may be given, as far as it takes it. Definitions only.
+-- To be believed. Number 11 (docs/RULES.md, The numbers): what a single-pixel call may be given, as far as it takes it. Definitions only.
 use Prim.Native.Nat.{ℕ}
 use mathlib.Core.Bool.{Bool, true, cond, _&&_}
 use lib.Dec.{leb, ltb}
@@ -43,7 +43,7 @@ writerOk w = widthOk (w .layout .width) && sizOk (w .layout .siz)
 abbrev pub encodeOk : Writer → ℕ → ℕ → Bool
 encodeOk w coverage pixel = writerOk w && (coverageOk coverage && placeOk pixel)
 
--- a call's outcome in document 01's terms: its number, 0 where it is accepted, and its value
+-- a call's outcome in the terms of docs/RULES.md: its number, 0 where it is accepted, and its value
 pub record Outcome (A : Type 0) : Type 0 where
   pub number : ℕ
   pub value : A

@@ -1,4 +1,4 @@
-// The single-pixel calls as a host makes them: each checks what document 01's number 11 names of its arguments, and answers zeros or no where it is turned away.
+// The single-pixel calls as a host makes them: each checks what number 11 (docs/RULES.md) names of its arguments, and answers zeros or no where it is turned away.
 ghost use mathlib.Core.Path.{_≡_};
 ghost use Rattle.pixel.specs.Refusal.{countOk, coverageOk, knownOk, widthOk, sizOk, placeOk, writerOk, encodeOk, accepted};
 ghost use Rattle.pixel.specs.Calls.{destinationMeans, destinationCall, answerMeans, colorKnownCall, blendMeans, blendCall, packColorMeans, packColorCall, supportedCall, pixelBytesMeans, pixelBytesCall, encodeMeans, encodeCall};

@@ -1,4 +1,4 @@
--- What one pixel of a draw emits, by itself: raster/specs/Emitted.antt without its lists, and total. Definitions only. Source: writeback.rs, `rasterize`.
+-- To be believed. What one pixel of a draw emits, by itself: raster/specs/Emitted.antt without its lists, and total. Definitions only. Source: writeback.rs, `rasterize`.
 use Prim.Native.Nat.{ℕ, _/_}
 use mathlib.Core.Bool.{Bool, cond, not, _||_}
 use mathlib.Core.List.{List, [], _∷_, map}

@@ -1,4 +1,4 @@
--- A part of lo..hi that is full throughout: between a triangle's edges, or a rectangle's sides, every pixel has all its samples, and none of them has to be
+-- Inner vocabulary. A part of lo..hi that is full throughout: between a triangle's edges, or a rectangle's sides, every pixel has all its samples, and none of them has to be
 -- looked at. `Inner` says that. Definitions only.
 use Prim.Native.Nat.{ℕ, _≤_, _<_}
 use Rattle.range.specs.declared.Range.{Range}

@@ -1,4 +1,4 @@
--- A part of lo..hi that leaves nothing out: the Rust looks only between a triangle's outermost edges, and only between a rectangle's sides; `Kept` says that
+-- Inner vocabulary. A part of lo..hi that leaves nothing out: the Rust looks only between a triangle's outermost edges, and only between a rectangle's sides; `Kept` says that
 -- nothing is lost by that. Definitions only.
 use Prim.Native.Nat.{ℕ, _≤_, _<_}
 use Rattle.range.specs.declared.Range.{Range}

@@ -26,7 +26,8 @@ use Rattle.rectangle.specs.Rectangle.{rectMask}
 use Rattle.rectangle.specs.Window.{EmptyColumn, EmptyRow}
 use Rattle.raster.specs.declared.Fragment.the-variants.{Empty}
 use Rattle.raster.specs.Parts.{from}
-use Rattle.raster.specs.Emitted.{Emit, shown, covered, emits, mixedFragment, triangleFragment, rectangleFragment}
+use Rattle.raster.specs.Emitted.{Emit, shown, covered, emits, triangleFragment, rectangleFragment}
+use Rattle.raster.specs.Fragments.{mixedFragment}
 use Rattle.raster.proofs.Parts.{from-empty, window}
 
 -- the parts that a kept range leaves out are empty

@@ -5,7 +5,8 @@ use mathlib.Core.List.{List, foldl, foldl-append}
 use Prim.Native.Nat.{ℕ, _+_, _≤_, _<_}
 use native.Mathlib.Omega.{arith}
 use lib.ListN.{length, length-append}
-use Rattle.raster.specs.Parts.{from, Ran}
+use Rattle.raster.specs.Parts.{from}
+use Rattle.raster.specs.Ran.{Ran}
 use Rattle.raster.proofs.Parts.{from-more, from-none}
 
 module _ {S E : Type 0} (step : S → E → S) where

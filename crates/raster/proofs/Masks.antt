@@ -16,7 +16,8 @@ use Rattle.edges.proofs.Ones as ones
 use Rattle.rectangle.specs.declared.Sides.{Sides}
 use Rattle.rectangle.specs.Rectangle.{sampleX, sampleY, insideOf, sampleBit, rowBits, rectMask}
 use Rattle.raster.specs.declared.Fragment.the-variants.{Empty, Covered}
-use Rattle.raster.specs.Emitted.{shown, covered, coloredFragment}
+use Rattle.raster.specs.Emitted.{shown, covered}
+use Rattle.raster.specs.Fragments.{coloredFragment}
 
 -- ---- every mask
 pub mask-lt : (e : Edges) (x : ℕ) → maskOf e x < 256

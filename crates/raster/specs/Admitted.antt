@@ -1,5 +1,5 @@
--- Which draws the Rust's `admitted` takes: no triangle has a check that fails. Definitions only. Source: writeback.rs, `admitted`, its checks in its order;
--- document 01, "Corners"; document 02, request S-7, numbers them.
+-- To be believed. Which draws the Rust's `admitted` takes: no triangle has a check that fails. Definitions only. Source: writeback.rs, `admitted`, its checks in its order;
+-- docs/RULES.md, Admitted draws, numbers them.
 use Prim.Native.Nat.{ℕ, zero, suc, _+_, _*_, _/_}
 use mathlib.Core.Bool.{Bool, true, false, _&&_}
 use mathlib.Core.List.{List}

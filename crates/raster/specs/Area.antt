@@ -1,4 +1,4 @@
--- The part of a frame inside a scissor: writeback.rs, `rasterize`, its clamps of the scissor to the frame. Definitions only.
+-- Inner vocabulary. The part of a frame inside a scissor: writeback.rs, `rasterize`, its clamps of the scissor to the frame. Definitions only.
 use Prim.Native.Nat.{ℕ, _+_, _≤_, min}
 use Rattle.raster.specs.declared.Scissor.{Scissor}
 use Rattle.raster.specs.declared.Area.{Area}

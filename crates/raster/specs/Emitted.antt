@@ -1,4 +1,4 @@
--- The pixels that a draw emits, in the Rust's order: triangle after triangle, row after row, from left to right. Definitions only. Source: writeback.rs,
+-- To be believed. The pixels that a draw emits, in the Rust's order: triangle after triangle, row after row, from left to right. Definitions only. Source: writeback.rs,
 -- `rasterize`. A row is every pixel of the frame inside the scissor; that its outermost edges may be looked at first is a law, and not part of this.
 use Prim.Native.Nat.{ℕ, _+_, _*_, _/_, min}
 use mathlib.Core.Bool.{Bool, cond, _&&_, _||_}
@@ -13,9 +13,7 @@ use Rattle.mode.specs.declared.Rgba.{Rgba}
 use Rattle.combiner.specs.declared.Combiner.{Combiner}
 use Rattle.combiner.specs.declared.Color.{Color}
 use Rattle.combiner.specs.declared.Color.the-variants as color
-use Rattle.mixer.specs.declared.Mixer.{Mixer}
 use Rattle.combiner.specs.Combine.{colorOf, fullShade}
-use Rattle.mixer.specs.Mixer.{colorValue, mixedBy}
 use Rattle.vertex.specs.declared.Vertex.{Vertex}
 use Rattle.vertex.specs.Sorted.{sorted}
 use Rattle.vertex.specs.Shade.{culledOf, shadeOf}
@@ -68,10 +66,6 @@ inside s w h pixel =
 abbrev pub cornerOf : Vertex → Corner
 cornerOf v = record { x = quarterOf (v .x); y = quarterOf (v .y) }
 
--- a pixel by its samples and its shade, with a combiner resolved for the draw
-unfoldable pub mixedFragment : Bool → Mixer → ℕ → Rgba → Fragment
-mixedFragment antialias m mask shade = cond (shown antialias mask) (covered mask (colorValue (mixedBy m shade)) (shade .a)) Empty
-
 -- pixel (x, y): its samples between the edges of row y, and the shade at its upper left corner, of the vertices sorted
 unfoldable pub triangleFragment : Bool → Combiner → List Vertex → Edges → ℕ → ℕ → Fragment
 triangleFragment antialias k o e y x =
@@ -96,10 +90,6 @@ unfoldable pub rectangleFragment : Bool → Color → Sides → ℕ → ℕ → 
 rectangleFragment antialias c sides y x =
     let mask = rectMask sides x y in
     cond (shown antialias mask) (covered mask c (fullShade .a)) Empty
-
--- the same by its samples
-unfoldable pub coloredFragment : Bool → Color → ℕ → Fragment
-coloredFragment antialias c mask = cond (shown antialias mask) (covered mask c (fullShade .a)) Empty
 
 unfoldable pub rectangleEmits : RenderMode → Combiner → Scissor → ℕ → ℕ → Sides → List Emit
 rectangleEmits m k s w h sides =

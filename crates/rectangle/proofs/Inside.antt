@@ -10,7 +10,8 @@ use lib.Dec.{ltb, eqb}
 use lib.Ieee.{Float, nan, inf, fin, up, down, lt, le}
 use Rattle.range.specs.declared.Range.{Range}
 use Rattle.range.specs.Inner.{Inner}
-use Rattle.rectangle.specs.Rectangle.{quarters, withinOf, quarterBit}
+use Rattle.rectangle.specs.Rectangle.{quarters, withinOf}
+use Rattle.rectangle.specs.Axes.{quarterBit}
 use Rattle.rectangle.specs.Window.{Filled}
 
 pub both-true : (a b : Bool) → a && b ≡ true → (a ≡ true) × (b ≡ true)

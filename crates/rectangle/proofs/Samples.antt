@@ -9,7 +9,8 @@ use lib.Bits.{bitAnd}
 use lib.Dec.{eqb}
 use lib.Ieee.{Float}
 use Rattle.rectangle.specs.declared.Sides.{Sides}
-use Rattle.rectangle.specs.Rectangle.{quarters, sampleX, sampleY, withinOf, insideOf, sampleBit, rowBits, rectMask, quarterBit, placedAt, bitsOfColumn, bitsOfRow}
+use Rattle.rectangle.specs.Rectangle.{quarters, sampleX, sampleY, withinOf, insideOf, sampleBit, rowBits, rectMask}
+use Rattle.rectangle.specs.Axes.{quarterBit, placedAt, bitsOfColumn, bitsOfRow}
 use Rattle.rectangle.specs.Window.{Untouched, EmptyColumn, EmptyRow, Filled, FullColumn}
 use Rattle.rectangle.proofs.Inside.{both-true}
 use Rattle.rectangle.proofs.Outside.{and-false}

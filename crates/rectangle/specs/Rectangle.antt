@@ -1,9 +1,8 @@
--- Which samples of a pixel a rectangle holds. From writeback.rs `rasterize`. The pattern is the RDP's coverage: of the 4 by 4
+-- To be believed. Which samples of a pixel a rectangle holds. From writeback.rs `rasterize`. The pattern is the RDP's coverage: of the 4 by 4
 -- places of a pixel every second one is a sample, as on a checkerboard (N64brew, Reality Display Processor; Nintendo 64
 -- Programming Manual, coverage). Here row `sub` of four has a left sample, k = 0, and a right one, k = 1. Definitions only.
 use Prim.Native.Nat.{ℕ, _+_, _-_, _*_, _%_, _^_}
 use mathlib.Core.Bool.{Bool, false, cond, _&&_}
-use lib.Bits.{bitOr}
 use lib.IntN.{negsuc}
 use lib.Ieee.{Float, fin, le, lt}
 use Rattle.rectangle.specs.declared.Sides.{Sides}
@@ -39,32 +38,3 @@ rowBits s x y sub = sampleBit s x y sub 0 + sampleBit s x y sub 1
 -- the mask of pixel (x, y): the bits of its eight samples
 unfoldable pub rectMask : Sides → ℕ → ℕ → ℕ
 rectMask s x y = rowBits s x y 0 + rowBits s x y 1 + rowBits s x y 2 + rowBits s x y 3
-
--- ---- a mask by its two axes: a sample is hit where its column lies between the left and right sides, and its row between the top and bottom ones
-
--- quarter q of pixel n of an axis lies between the axis's two sides: 1 or 0
-unfoldable pub quarterBit : Float → Float → ℕ → ℕ → ℕ
-quarterBit low high n q = cond (withinOf low high (quarters (n * 4 + q))) 1 0
-
--- `v << k` of a byte
-abbrev pub shl8 : ℕ → ℕ → ℕ
-shl8 v k = (v * 2 ^ k) % 2 ^ 8
-
--- four bits at places a, b, c and 0 of a byte, and once more `apart` places above
-abbrev pub placedAt : ℕ → ℕ → ℕ → ℕ → ℕ → ℕ → ℕ → ℕ → ℕ
-placedAt a b c apart p q r s =
-    let lower = bitOr (bitOr (bitOr (shl8 p a) (shl8 q b)) (shl8 r c)) s in
-    bitOr (shl8 lower apart) lower
-
--- the bits of the samples of column x between left and right. Quarters 0 and 2 are the left and right samples of rows 0 and 2, with bits 7 and 6 and bits 3
--- and 2; quarters 1 and 3 are those of rows 1 and 3, with bits 5 and 4 and bits 1 and 0
-unfoldable pub bitsOfColumn : Sides → ℕ → ℕ
-bitsOfColumn s x =
-    let q : ℕ → ℕ = quarterBit (s .left) (s .right) x in
-    placedAt 3 1 2 4 (q 0) (q 1) (q 2) (q 3)
-
--- the bits of the samples of row y between top and bottom: quarter q is both samples of its row q
-unfoldable pub bitsOfRow : Sides → ℕ → ℕ
-bitsOfRow s y =
-    let q : ℕ → ℕ = quarterBit (s .top) (s .bottom) y in
-    placedAt 6 4 2 1 (q 0) (q 1) (q 2) (q 3)

@@ -1,11 +1,12 @@
--- What a rectangle's rows and columns leave out when its pixels are looked for only between its sides, as writeback.rs `rasterize` does; and the columns
+-- Inner vocabulary. What a rectangle's rows and columns leave out when its pixels are looked for only between its sides, as writeback.rs `rasterize` does; and the columns
 -- that lie whole between its sides. Definitions only.
 use Prim.Native.Nat.{ℕ, _+_, _*_, _<_}
 use mathlib.Core.Path.{_≡_}
 use mathlib.Core.Bool.{true, false}
 use lib.Ieee.{Float}
 use Rattle.rectangle.specs.declared.Sides.{Sides}
-use Rattle.rectangle.specs.Rectangle.{quarters, withinOf, rectMask, bitsOfColumn}
+use Rattle.rectangle.specs.Rectangle.{quarters, withinOf, rectMask}
+use Rattle.rectangle.specs.Axes.{bitsOfColumn}
 
 -- no quarter of pixel n of an axis lies between the axis's two sides
 abbrev pub Untouched : Float → Float → ℕ → Type 0

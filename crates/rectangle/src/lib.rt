@@ -2,7 +2,8 @@
 // touch. A side is any f32, a NaN or an infinity too.
 ghost use mathlib.Core.Path.{_≡_};
 ghost use Prim.Native.Nat.{_<_, _≤_, min, max};
-ghost use Rattle.rectangle.specs.Rectangle.{withinOf, rectMask, quarterBit, placedAt, bitsOfColumn, bitsOfRow};
+ghost use Rattle.rectangle.specs.Rectangle.{withinOf, rectMask};
+ghost use Rattle.rectangle.specs.Axes.{quarterBit, placedAt, bitsOfColumn, bitsOfRow};
 ghost use Rattle.rectangle.specs.Window.{Untouched, EmptyColumn, EmptyRow, Filled, FullColumn};
 ghost use Rattle.range.specs.Kept.{Kept};
 ghost use Rattle.range.specs.Inner.{Inner};

@@ -19,7 +19,7 @@ use Rattle.raster.specs.Parts.{from}
 use Rattle.raster.proofs.Inside.{inside-area}
 use Rattle.raster.proofs.Kept.{rect-row-kept, rect-rows-kept}
 use Rattle.frame.specs.Frame.{Frame}
-use Rattle.paint.specs.Steps.{Drew}
+use Rattle.paint.specs.Pixel.{Drew}
 use Rattle.rectangles.specs.Parts.{rectangleRow}
 use Rattle.paint.proofs.Drawing.{drew-as}
 

@@ -9,12 +9,14 @@ use Rattle.combiner.specs.declared.Color.{Color}
 use Rattle.combiner.specs.Combine.{fullShade}
 use Rattle.mixer.specs.Mixer.{colorValue}
 use Rattle.rectangle.specs.declared.Sides.{Sides}
-use Rattle.rectangle.specs.Rectangle.{rectMask, bitsOfColumn, bitsOfRow}
+use Rattle.rectangle.specs.Rectangle.{rectMask}
+use Rattle.rectangle.specs.Axes.{bitsOfColumn, bitsOfRow}
 use Rattle.rectangle.specs.Window.{FullColumn}
 use Rattle.rectangle.proofs.Samples.{rect-and, full-mask}
 use Rattle.raster.specs.declared.Fragment.{Fragment}
 use Rattle.raster.specs.declared.Fragment.the-variants.{Empty, Covered}
-use Rattle.raster.specs.Emitted.{shown, covered, emits, rectangleFragment, coloredFragment}
+use Rattle.raster.specs.Emitted.{shown, covered, emits, rectangleFragment}
+use Rattle.raster.specs.Fragments.{coloredFragment}
 use Rattle.raster.proofs.Masks.{colored-count}
 use Rattle.paint.specs.declared.pen.Pen.{Pen}
 use Rattle.paint.specs.Pixel.{Counted, emitOf}

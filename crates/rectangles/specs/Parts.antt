@@ -1,4 +1,4 @@
--- The parts of a rectangle as the code goes through them: its pixels and rows. Definitions only.
+-- Inner vocabulary. The parts of a rectangle as the code goes through them: its pixels and rows. Definitions only.
 use Prim.Native.Nat.{ℕ, _+_, _*_}
 use mathlib.Core.List.{List}
 use Rattle.mode.specs.declared.RenderMode.{RenderMode}

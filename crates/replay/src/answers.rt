@@ -8,7 +8,7 @@ use sheet::line::Words;
 use sheet::values::float;
 ghost use Prim.Native.Nat.{_+_, _≤_};
 
-// Document 01's number for an argument that a single-pixel call turns away.
+// The number (docs/RULES.md) for an argument that a single-pixel call turns away.
 pub const REFUSED: u32 = 11;
 
 fn color_number(input: ColorIn) -> u32 {
@@ -117,7 +117,7 @@ pub fn same_combiner(c: Combiner, w: &Words, at: usize) -> bool
     selectors & prim & env & blend & fog & lod
 }
 
-// A number of document 01, 0 for an answer, and the answer.
+// A number (docs/RULES.md), 0 for an answer, and the answer.
 pub fn same_answer(number: u32, value: u32, w: &Words, at: usize) -> bool
     requires { ⌜ at + 2 ≤ 128 ⌝ }
 {

@@ -8,7 +8,8 @@ use borrow.Author.Tests.{eqb-true}
 use lib.Dec.{eqb}
 use lib.ListN.{length}
 use Rattle.pack.specs.Writer.{supportedOf}
-use Rattle.frame.specs.Frame.{Frame, Fit}
+use Rattle.frame.specs.Frame.{Frame}
+use Rattle.frame.specs.Fits.{Fit}
 use Rattle.frame.specs.Checks.{frameRefusal}
 use Rattle.frame.proofs.Fits.{accepted}
 use Rattle.runs.specs.declared.Run.the-variants.{Read, Refused}

@@ -1,4 +1,4 @@
--- A run as the code goes through it: the two lent slices as entries, one for each pixel, and the word of a pixel from its column and row. Definitions only.
+-- Inner vocabulary. A run as the code goes through it: the two lent slices as entries, one for each pixel, and the word of a pixel from its column and row. Definitions only.
 use Prim.Native.Nat.{ℕ, _+_, _*_, _/_, _%_, _≤_, _<_}
 use mathlib.Core.Path.{_≡_}
 use mathlib.Core.Bool.{cond}

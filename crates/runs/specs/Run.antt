@@ -1,4 +1,4 @@
--- A run of words: the single word reads of the pixels first, first + 1, .. on one frame, one after the other, into lent slices for their bytes and numbers.
+-- To be believed. A run of words: the single word reads of the pixels first, first + 1, .. on one frame, one after the other, into lent slices for their bytes and numbers.
 -- Definitions only.
 use Prim.Native.Nat.{ℕ, zero, suc, _+_, _*_, _≤_}
 use mathlib.Core.Bool.{Bool, cond}

@@ -3,7 +3,8 @@
 ghost use mathlib.Core.Path.{_≡_};
 ghost use Prim.Native.Nat.{ℕ, _+_, _*_, _<_, _≤_};
 ghost use lib.ListN.{length, getD};
-ghost use Rattle.frame.specs.Frame.{Fit, frameOf, cellAt};
+ghost use Rattle.frame.specs.Frame.{frameOf, cellAt};
+ghost use Rattle.frame.specs.Fits.{Fit};
 ghost use Rattle.frame.specs.Loads.{ColorKnown, CoverageKnown, ColorThere, Loadable};
 ghost use Rattle.runs.specs.Run.{oneIf, countOf, answersFrom};
 ghost use Rattle.runs.specs.Entries.{entriesOf, putEntry, Matched, Wrote, answerOf, refusedBy, colorAt, halfword, byteOf, wordAt, answerAt, answerIn, At};

@@ -1,5 +1,5 @@
--- Demand 3: any list of draws, word reads and runs of them on one frame, and what the verdicts of F1 and F2 said of a pixel. Definitions only. Source: document 00, demand 3,
--- and document 01, "For demand 3". The sizes w and h are fixed with the frame; a list starts from any sizes and slices, also ones that numbers 1 to 3 refuse.
+-- To be believed. Demand 3: any list of draws, word reads and runs of them on one frame, and what the verdicts of F1 and F2 said of a pixel. Definitions only. Source: docs/RULES.md,
+-- What is not known does not show. The sizes w and h are fixed with the frame; a list starts from any sizes and slices, also ones that numbers 1 to 3 refuse.
 use Prim.Native.Nat.{ℕ}
 use mathlib.Core.Path.{_≡_}
 use mathlib.Core.Bool.{Bool, cond, not, _&&_}

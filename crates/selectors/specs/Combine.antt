@@ -1,8 +1,7 @@
--- The RDP command Set Combine Mode (0x3C): which input each slot of the colour combiner reads in each cycle. Definitions only.
+-- To be believed. The RDP command Set Combine Mode (0x3C): which input each slot of the colour combiner reads in each cycle. Definitions only.
 -- Sources: Nintendo 64 Programming Manual, the colour combiner, and gbi.h's gsDPSetCombineLERP; N64brew wiki, Reality Display
 -- Processor/Commands, 0x3C. A channel is (a - b) * c + d, in the papers (sub_a - sub_b) * mul + add.
 use Prim.Native.Nat.{ℕ, _+_, _-_, _*_, _%_, _^_}
-use mathlib.Core.Bool.{Bool, true, false}
 use mathlib.Core.List.{List, [], _∷_}
 use lib.ListN.{getD}
 use Rattle.bits.specs.Field.{field}
@@ -89,11 +88,6 @@ cycle1 l h =
       ac = select alphaC alpha.Zero 3 (at 20 18 w);
       ad = select alphaABD alpha.Zero 3 (at 2 0 w);
     }
-
--- the one or the other, by whether it is the second
-abbrev pub cycleOf : Bool → ℕ → ℕ → CycleSel
-cycleOf false l h = cycle0 l h
-cycleOf true l h = cycle1 l h
 
 -- both cycles, with the words that they come from
 abbrev pub combineOf : ℕ → ℕ → CombinerSelectors

@@ -1,4 +1,4 @@
--- The inputs of the colour combiner by number: their order in combiner.rs, and the number by which the C interface hands each one over. Definitions only.
+-- To be believed. The inputs of the colour combiner by number: their order in combiner.rs, and the number by which the C interface hands each one over. Definitions only.
 -- A decoder turns nothing away, so its answer is an input and nothing else: this is the number of every case of it.
 use Prim.Native.Nat.{ℕ}
 use Rattle.selectors.specs.declared.ColorIn.{ColorIn}

@@ -1,3 +1,4 @@
 -- The definitions that the contracts of `selectors` cite.
 pub mod Combine
+pub mod Cycles
 pub mod Inputs

@@ -1,7 +1,8 @@
 // Selector decoding of combiner.rs: which input each slot of a combine word names.
 use bits::bits;
 ghost use mathlib.Core.Path.{_≡_};
-ghost use Rattle.selectors.specs.Combine.{select, colorA, colorB, colorC, colorD, alphaABD, alphaC, cycleOf, combineOf};
+ghost use Rattle.selectors.specs.Combine.{select, colorA, colorB, colorC, colorD, alphaABD, alphaC, combineOf};
+ghost use Rattle.selectors.specs.Cycles.{cycleOf};
 ghost use Rattle.selectors.specs.Inputs.{colorNumber, alphaNumber};
 
 // What a colour slot can read.

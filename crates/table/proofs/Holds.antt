@@ -67,6 +67,6 @@ computed : test table ≡ true
 unfolding test same table ones lt le ne mul add sub div ofInt field cycle1 select command colorA colorB colorC colorD alphaABD alphaC muxOf blends clampOf destinationOf reject alone factorB mixedOf bytesOf blendOf packChannelOf lastFrom rangeOf depthWord depthOf packDepthOf atOrBefore insert sorted quantized slopeOf edgeStart edgeFrom edgeAt crossOf triBy spanOf lineOf edgesOf twoOf pairOf maskOf insideOf sampleBit rowBits rectMask colorInput alphaInput mixed channelAt alphaAt joined colorOf compares blendsColor plain combinerOf newOf areaBy lookedUp usesShade checkOf parts triangleAt failing all admittedOf triangleFragment triangleEmits rectangleFragment rectangleEmits markOk marksOk frameRefusal scissorOk flagsOk inputsOk entryRefusal planOf drawAnswer
 computed = refl
 
--- Every row of document 01's proved table holds of the definitions.
+-- Every row of the proved table (docs/RULES.md, Ten worked values) holds of the definitions.
 pub table-holds : Holds table
 table-holds = holds table computed

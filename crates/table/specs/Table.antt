@@ -1,4 +1,4 @@
--- "The proved table" of document 01: what the definitions must give, row by row. Definitions only. A yes is 1 and a no is 0.
+-- To be believed. The proved table (docs/RULES.md, Ten worked values): what the definitions must give, row by row. Definitions only. A yes is 1 and a no is 0.
 use Prim.Native.Nat.{ℕ}
 use mathlib.Core.Path.{_≡_}
 use mathlib.Core.Bool.{Bool, true, false}

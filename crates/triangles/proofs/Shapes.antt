@@ -36,8 +36,9 @@ use Rattle.raster.specs.Parts.{from}
 use Rattle.raster.proofs.Checked.{AllIn, admitted-in, sorted-near}
 use Rattle.raster.proofs.Inside.{inside-area}
 use Rattle.raster.proofs.Kept.{row-kept, rows-kept}
-use Rattle.frame.specs.Frame.{Frame, Fit}
-use Rattle.paint.specs.Steps.{Drew}
+use Rattle.frame.specs.Frame.{Frame}
+use Rattle.frame.specs.Fits.{Fit}
+use Rattle.paint.specs.Pixel.{Drew}
 use Rattle.triangles.specs.Parts.{Placed, trianglePixel, triangleRow}
 use Rattle.paint.proofs.Drawing.{drew-as}
 

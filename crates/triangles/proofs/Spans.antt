@@ -13,7 +13,8 @@ use Rattle.vertex.specs.Shade.{shadeOf}
 use Rattle.edges.specs.declared.Edges.{Edges}
 use Rattle.edges.specs.Sample.{maskOf}
 use Rattle.raster.specs.declared.Fragment.the-variants.{Empty}
-use Rattle.raster.specs.Emitted.{shown, covered, emits, mixedFragment, triangleFragment}
+use Rattle.raster.specs.Emitted.{shown, covered, emits, triangleFragment}
+use Rattle.raster.specs.Fragments.{mixedFragment}
 use Rattle.raster.specs.Parts.{from}
 use Rattle.raster.proofs.Kept.{row-shaded}
 use Rattle.paint.specs.declared.pen.Pen.{Pen}

@@ -1,4 +1,4 @@
--- The parts of triangles as the code goes through them: a triangle's pixels and rows, and the triangles of a list. Definitions only.
+-- Inner vocabulary. The parts of triangles as the code goes through them: a triangle's pixels and rows, and the triangles of a list. Definitions only.
 use Prim.Native.Nat.{ℕ, _+_, _*_, _/_}
 use mathlib.Core.Bool.{Bool}
 use mathlib.Core.List.{List, [], _∷_, map}

@@ -1,4 +1,4 @@
--- Which vertices a draw may have: document 01, "Corners", and writeback.rs, `Vertex::in_range` and `admitted`.
+-- To be believed. Which vertices a draw may have: docs/RULES.md, Admitted draws, and writeback.rs, `Vertex::in_range` and `admitted`.
 -- `fin s m e` is the float m * 2 ^ e, negative where s is true; `le` is Rust's `<=`, false where a NaN stands.
 use mathlib.Core.Bool.{Bool, true, false, _&&_}
 use lib.IntN.{pos, negsuc}

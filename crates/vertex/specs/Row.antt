@@ -1,4 +1,4 @@
--- The colours of a row's pixels: `shadeOf` cut in two, what turns on the triangle and the row alone, and what is left for a pixel. Definitions only.
+-- Inner vocabulary. The colours of a row's pixels: `shadeOf` cut in two, what turns on the triangle and the row alone, and what is left for a pixel. Definitions only.
 -- Source: writeback.rs, `rasterize`; the operations are those of Shade, in the same order.
 use Prim.Native.Nat.{ℕ}
 use mathlib.Core.List.{List}

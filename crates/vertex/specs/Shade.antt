@@ -1,4 +1,4 @@
--- The float area of a triangle, what is culled by it, and the colour at a pixel: writeback.rs, `rasterize`.
+-- To be believed. The float area of a triangle, what is culled by it, and the colour at a pixel: writeback.rs, `rasterize`.
 -- `sub binary32` and its like are Rust's operators on f32, each rounded once.
 use Prim.Native.Nat.{ℕ}
 use mathlib.Core.Bool.{Bool, _&&_}
@@ -28,7 +28,7 @@ abbrev pub term : Float → Float → Float → Float
 term weight colour den = div binary32 (mul binary32 weight colour) den
 
 -- Three terms, added in order. Rust's `.sum()` of f32 starts at -0.0, and -0.0 + p is p. Older ones start at 0.0, which differs at most in
--- a zero's sign, and 0.0 counts as equal to -0.0 (document 01).
+-- a zero's sign, and 0.0 counts as equal to -0.0 (docs/RULES.md).
 abbrev pub sum3 : Float → Float → Float → Float
 sum3 p q r = add binary32 (add binary32 p q) r
 

@@ -1,4 +1,4 @@
--- The order of a triangle's vertices: writeback.rs, `rasterize`, whose `sort_by` is stable and goes by y, then x, in `total_cmp`'s order.
+-- To be believed. The order of a triangle's vertices: writeback.rs, `rasterize`, whose `sort_by` is stable and goes by y, then x, in `total_cmp`'s order.
 -- -0.0 comes before 0.0. `total_cmp` orders NaNs too, which no vertex in range has; `totalLe` is false of them.
 use Prim.Native.Nat.{ℕ}
 use mathlib.Core.Bool.{Bool, cond, not, _&&_, _||_}

@@ -1,4 +1,4 @@
--- A word read: numbers 1 to 3 and 8 to 10 of document 01, and `encode`'s two bytes without a literal. Definitions only.
+-- To be believed. A word read: numbers 1 to 3 and 8 to 10 (docs/RULES.md, The numbers), and `encode`'s two bytes without a literal. Definitions only.
 use Prim.Native.Nat.{ℕ, zero, suc, _*_, _≤_}
 use mathlib.Core.Bool.{Bool, false, cond, not, _&&_, _||_}
 use lib.Dec.{ltb, eqb}
@@ -55,7 +55,7 @@ wordBy writer pixel dither encoding x = encodeOf writer (bytesOf x) (orZero (cov
 unfoldable pub wordOf : ReadArgs → ℕ → Cell → Bytes2
 wordOf a w x = wordBy (writerOf a w) (a .pixel) (a .dither) (a .encoding) x
 
--- an answer in document 01's terms: its number and its two bytes
+-- an answer in the terms of docs/RULES.md: its number and its two bytes
 pub record WordAnswer : Type 0 where
   pub number : ℕ
   pub word : Bytes2

@@ -4,7 +4,8 @@ use mathlib.Core.Bool.{Bool, not, _&&_, _||_}
 use lib.Dec.{eqb}
 use borrow.Author.Tests.{eq-eqb, ne-eqb}
 use borrow.Author.Needs.{needs}
-use Rattle.blender.specs.Known.{reject, opaqueOf}
+use Rattle.blender.specs.Known.{reject}
+use Rattle.blender.specs.Layer.{opaqueOf}
 use Rattle.blender.proofs.opaque.Statement.{statement}
 use Rattle.blender.proofs.opaque.Tie as tie
 

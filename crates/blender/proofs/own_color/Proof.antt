@@ -1,7 +1,8 @@
 -- `blender::own_color` meets its contract: what `source` answers at the selector that `decode_mux` gives. Assumes nothing.
 use mathlib.Core.Path.{_∙_}
 use borrow.Author.Needs.{needs}
-use Rattle.blender.specs.Blend.{sourceOf, ownOf}
+use Rattle.blender.specs.Blend.{sourceOf}
+use Rattle.blender.specs.Layer.{ownOf}
 use Rattle.blender.proofs.own_color.Statement.{statement}
 use Rattle.blender.proofs.own_color.Tie as tie
 

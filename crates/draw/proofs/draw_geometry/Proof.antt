@@ -13,7 +13,7 @@ use Rattle.raster.specs.declared.Scissor.{Scissor}
 use Rattle.raster.specs.Admitted.{admittedOf}
 use Rattle.raster.specs.Emitted.{geometryEmits}
 use Rattle.frame.specs.Frame.{Frame}
-use Rattle.paint.specs.Steps.{Drew}
+use Rattle.paint.specs.Pixel.{Drew}
 use Rattle.paint.specs.Pen.{Mixed}
 use Rattle.paint.proofs.Drawing.{drew-as}
 use Rattle.paint.proofs.Pens.{by-pen}

@@ -4,7 +4,7 @@ use mathlib.Core.Path.{_≡_, sym, ap, _∙_}
 use mathlib.Core.List.{[], _∷_}
 use native.Mathlib.Nat.{add-zero}
 use Rattle.edge.specs.Edge.{crossOf}
-use Rattle.edge.specs.Span.{fourOf}
+use Rattle.edge.specs.Lines.{fourOf}
 use Rattle.edge.proofs.Held.{back}
 use borrow.Author.Needs.{needs}
 use Rattle.edge.proofs.four.Statement.{statement}

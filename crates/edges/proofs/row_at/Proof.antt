@@ -1,6 +1,6 @@
 -- `edges::row_at` meets its contract: the two edges, in the order that `rightward` says. Assumes nothing.
 use mathlib.Core.Path.{sym}
-use Rattle.edges.specs.Span.{rowOf, edgesBy}
+use Rattle.edges.specs.Lines.{rowOf, edgesBy}
 use borrow.Author.Needs.{needs}
 use Rattle.edges.proofs.row_at.Statement.{statement}
 use Rattle.edges.proofs.row_at.Tie as tie

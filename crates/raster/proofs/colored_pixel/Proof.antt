@@ -2,7 +2,7 @@
 use mathlib.Core.Path.{refl, sym, _∙_}
 use lib.Ieee.{ofBits}
 use borrow.Author.Tests.{not-true, not-false}
-use Rattle.raster.specs.Emitted.{coloredFragment}
+use Rattle.raster.specs.Fragments.{coloredFragment}
 use Rattle.checks.proofs.Choices.{taken, passed}
 use borrow.Author.Needs.{needs}
 use Rattle.raster.proofs.colored_pixel.Statement.{statement}

@@ -1,6 +1,7 @@
 -- `rectangle_pixel` meets its contract: the pixel by its samples. Assumes nothing.
 use mathlib.Core.Path.{_∙_}
-use Rattle.raster.specs.Emitted.{coloredFragment, rectangleFragment}
+use Rattle.raster.specs.Emitted.{rectangleFragment}
+use Rattle.raster.specs.Fragments.{coloredFragment}
 use borrow.Author.Needs.{needs}
 use Rattle.raster.proofs.rectangle_pixel.Statement.{statement}
 use Rattle.raster.proofs.rectangle_pixel.Tie as tie

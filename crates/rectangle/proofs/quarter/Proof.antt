@@ -8,7 +8,7 @@ use lib.IntN.{pos}
 use lib.Ieee.{binary32, inFloat, ofBits}
 use mir.Val.{boolByte}
 use borrow.Author.Needs.{needs}
-use Rattle.rectangle.specs.Rectangle.{quarterBit}
+use Rattle.rectangle.specs.Axes.{quarterBit}
 use Rattle.rectangle.proofs.Exact.{quarter-at}
 use Rattle.rectangle.proofs.quarter.Statement.{statement}
 use Rattle.rectangle.proofs.quarter.Tie as tie

@@ -7,7 +7,8 @@ use borrow.Author.Needs.{needs}
 use borrow.Author.Tests.{not-true, not-false}
 use Rattle.selectors.specs.declared.ColorIn.the-variants as color
 use Rattle.selectors.specs.declared.AlphaIn.the-variants as alpha
-use Rattle.selectors.specs.Combine.{select, colorA, colorB, colorC, colorD, alphaABD, alphaC, cycle0, cycle1, cycleOf}
+use Rattle.selectors.specs.Combine.{select, colorA, colorB, colorC, colorD, alphaABD, alphaC, cycle0, cycle1}
+use Rattle.selectors.specs.Cycles.{cycleOf}
 use Rattle.selectors.proofs.Words.{upper, lower}
 use Rattle.selectors.proofs.decode_cycle.Statement.{statement}
 use Rattle.selectors.proofs.decode_cycle.Tie as tie

@@ -5,7 +5,7 @@ use Prim.Native.Nat.{_-_}
 use native.Mathlib.Omega.{arith}
 use lib.ListN.{length, drop}
 use borrow.Author.Needs.{needs}
-use Rattle.frame.specs.Checks.{every, atMost}
+use Rattle.frame.specs.Told.{every, atMost}
 use Rattle.frame.proofs.Refusals.{found-next, found-done, every-more, every-none}
 use Rattle.frame.proofs.checks.all_at_most.Statement.{statement}
 use Rattle.frame.proofs.checks.all_at_most.Tie as tie

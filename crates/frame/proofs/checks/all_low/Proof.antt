@@ -5,7 +5,7 @@ use Prim.Native.Nat.{_-_}
 use native.Mathlib.Omega.{arith}
 use lib.ListN.{length, drop}
 use Rattle.cell.specs.Marks.{coverageMarked}
-use Rattle.frame.specs.Checks.{every, atMost}
+use Rattle.frame.specs.Told.{every, atMost}
 use Rattle.frame.proofs.Refusals.{found-next, found-done, every-at, every-more, every-none}
 use Rattle.frame.proofs.checks.all_low.Statement.{statement}
 use Rattle.frame.proofs.checks.all_low.Tie as tie

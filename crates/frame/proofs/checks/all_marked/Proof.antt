@@ -6,7 +6,7 @@ use native.Mathlib.Omega.{arith}
 use lib.ListN.{length, drop}
 use borrow.Author.Needs.{needs}
 use Rattle.cell.specs.Marks.{coverageMarked}
-use Rattle.frame.specs.Checks.{every}
+use Rattle.frame.specs.Told.{every}
 use Rattle.frame.proofs.Refusals.{found-next, found-done, every-more, every-none}
 use Rattle.frame.proofs.checks.all_marked.Statement.{statement}
 use Rattle.frame.proofs.checks.all_marked.Tie as tie

@@ -1,6 +1,6 @@
 -- `look` meets its contract: no coverage marked, a mark that is too high, some coverages marked, or every one.
 use mathlib.Core.Path.{sym, _∙_}
-use Rattle.frame.specs.Checks.{Tells}
+use Rattle.frame.specs.Told.{Tells}
 use Rattle.frame.proofs.Tests.{was-true, was-false}
 use Rattle.frame.proofs.Refusals.{marks-high, marks-unmarked, marks-marked}
 use borrow.Author.Needs.{needs}

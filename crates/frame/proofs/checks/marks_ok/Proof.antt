@@ -1,6 +1,6 @@
 -- `marks_ok` meets its contract: what was told, or part by part.
 use mathlib.Core.Path.{subst}
-use Rattle.frame.specs.Checks.{Tells}
+use Rattle.frame.specs.Told.{Tells}
 use borrow.Author.Needs.{needs}
 use Rattle.frame.proofs.checks.marks_ok.Statement.{statement}
 use Rattle.frame.proofs.checks.marks_ok.Tie as tie

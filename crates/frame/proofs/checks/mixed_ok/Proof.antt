@@ -6,7 +6,8 @@ use native.Mathlib.Omega.{arith}
 use borrow.Author.Tests.{leb-true}
 use lib.ListN.{length, drop}
 use Rattle.cell.specs.Marks.{highestMark}
-use Rattle.frame.specs.Checks.{marksOk, atMost}
+use Rattle.frame.specs.Checks.{marksOk}
+use Rattle.frame.specs.Told.{atMost}
 use Rattle.frame.proofs.Refusals.{found-next, found-done, every-at, marks-more, marks-none}
 use Rattle.frame.proofs.checks.mixed_ok.Statement.{statement}
 use Rattle.frame.proofs.checks.mixed_ok.Tie as tie

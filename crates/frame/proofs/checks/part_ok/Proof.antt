@@ -1,6 +1,6 @@
 -- `part_ok` meets its contract: what was told, or pixel by pixel.
 use mathlib.Core.Path.{subst}
-use Rattle.frame.specs.Checks.{Tells}
+use Rattle.frame.specs.Told.{Tells}
 use borrow.Author.Needs.{needs}
 use Rattle.frame.proofs.checks.part_ok.Statement.{statement}
 use Rattle.frame.proofs.checks.part_ok.Tie as tie

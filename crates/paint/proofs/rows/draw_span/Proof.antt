@@ -8,7 +8,7 @@ use Rattle.paint.proofs.Drawing.{Drawing, drawing-start, drawing-fits, 
 use Rattle.paint.specs.Pen.{shadedAt, shadedPixel}
 use Rattle.vertex.specs.Row.{shadeOn}
 use Rattle.edges.specs.Sample.{maskOf}
-use Rattle.raster.specs.Emitted.{mixedFragment}
+use Rattle.raster.specs.Fragments.{mixedFragment}
 use Rattle.paint.proofs.Joins.{row-most}
 use Rattle.paint.proofs.Pens.{own-bytes}
 use Rattle.paint.proofs.rows.draw_span.Statement.{statement}

@@ -1,6 +1,6 @@
 -- `rectangle::Sides::column_bits` meets its contract: the four quarters of the column, each at its samples' bits. Assumes nothing.
 use borrow.Author.Needs.{needs}
-use Rattle.rectangle.specs.Rectangle.{bitsOfColumn}
+use Rattle.rectangle.specs.Axes.{bitsOfColumn}
 use Rattle.rectangle.proofs.Sides.column_bits.Statement.{statement}
 use Rattle.rectangle.proofs.Sides.column_bits.Tie as tie
 

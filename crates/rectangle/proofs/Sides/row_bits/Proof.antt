@@ -1,6 +1,6 @@
 -- `rectangle::Sides::row_bits` meets its contract: the four quarters of the row, each at its samples' bits. Assumes nothing.
 use borrow.Author.Needs.{needs}
-use Rattle.rectangle.specs.Rectangle.{bitsOfRow}
+use Rattle.rectangle.specs.Axes.{bitsOfRow}
 use Rattle.rectangle.proofs.Sides.row_bits.Statement.{statement}
 use Rattle.rectangle.proofs.Sides.row_bits.Tie as tie
 

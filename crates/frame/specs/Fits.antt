@@ -1,0 +1,43 @@
+-- Inner vocabulary. A frame that numbers 1 to 3 let through, and a pixel as far as it is known. Definitions only.
+use Prim.Native.Nat.{ℕ, _+_, _*_, _≤_}
+use mathlib.Core.Path.{_≡_}
+use mathlib.Core.Bool.{Bool, cond}
+use mathlib.Core.List.{List}
+use lib.ListN.{length, getD, set}
+use Rattle.cell.specs.declared.Cell.{Cell}
+use Rattle.cell.specs.Marks.{highestMark, colorMarked, coverageMarked, coverageOf}
+use Rattle.cell.specs.Rules.{orZero}
+use Rattle.frame.specs.Frame.{Frame}
+
+-- a frame of n pixels that numbers 1 to 3 let through: slices of their lengths, no mark above the highest, and no known coverage above 7
+pub record Fit (n : ℕ) (f : Frame) : Type 0 where
+  pub colors : length (f .colors) ≡ 3 * n
+  pub coverages : length (f .coverages) ≡ n
+  pub marks : length (f .marks) ≡ n
+  pub low : (p : ℕ) → getD (f .marks) p 0 ≤ highestMark
+  pub sound : (p : ℕ) → orZero (coverageOf (getD (f .marks) p 0) (getD (f .coverages) p 0)) ≤ 7
+
+-- an unmarked byte stands as 0
+abbrev pub knownCell : Cell → Cell
+knownCell x =
+    record {
+      red = cond (colorMarked (x .mark)) (x .red) 0;
+      green = cond (colorMarked (x .mark)) (x .green) 0;
+      blue = cond (colorMarked (x .mark)) (x .blue) 0;
+      coverage = cond (coverageMarked (x .mark)) (x .coverage) 0;
+      mark = x .mark;
+    }
+
+-- a byte stored, if it is known
+abbrev pub putIf : Bool → List ℕ → ℕ → ℕ → List ℕ
+putIf known l i v = cond known (set l i v) l
+
+-- a pixel stored as far as it is known
+abbrev pub putKnown : Frame → ℕ → Cell → Frame
+putKnown f p x =
+    let known = colorMarked (x .mark) in
+    record {
+      colors = putIf known (putIf known (putIf known (f .colors) (3 * p) (x .red)) (3 * p + 1) (x .green)) (3 * p + 2) (x .blue);
+      coverages = putIf (coverageMarked (x .mark)) (f .coverages) p (x .coverage);
+      marks = set (f .marks) p (x .mark);
+    }

@@ -1,0 +1,24 @@
+-- Inner vocabulary. What passes over marks alone, or over coverages alone, tell of number 3. Definitions only.
+use Prim.Native.Nat.{ℕ}
+use mathlib.Core.Path.{_≡_}
+use mathlib.Core.Bool.{Bool, true, false, _&&_}
+use mathlib.Core.List.{List, [], _∷_}
+use lib.Dec.{leb}
+use Rattle.cell.specs.Marks.{highestMark}
+use Rattle.frame.specs.declared.checks.Told.{Told}
+use Rattle.frame.specs.declared.checks.Told.the-variants.{Good, Bad, Mixed}
+use Rattle.frame.specs.Checks.{marksOk}
+
+-- what can be asked of marks alone or of coverages alone: that every number of a list passes a test
+unfoldable pub every : (ℕ → Bool) → List ℕ → Bool
+every test [] = true
+every test (n ∷ ns) = test n && every test ns
+
+abbrev pub atMost : ℕ → ℕ → Bool
+atMost most n = leb n most
+
+-- what is told of a part of the frame
+unfoldable pub Tells : List ℕ → List ℕ → Told → Type 0
+Tells cs ms Good = true ≡ marksOk cs ms
+Tells cs ms Bad = false ≡ marksOk cs ms
+Tells cs ms Mixed = every (atMost highestMark) ms ≡ true
