@@ -1,5 +1,5 @@
 #!/usr/bin/env bash
-# The one test command: the layout, rt ci, the comparison with the Rust, the C interface called from C, and the player's crate. rt ci comes first, because it
+# The one test command: the layout, the public set and the believed definitions beside docs/THEOREMS.md, rt ci, the comparison with the Rust, the C interface called from C, and the player's crate. rt ci comes first, because it
 # removes target/ and proves every crate, and what links the static library builds it on those proofs; its last line, 'N passed, 0 failed', is said again at
 # the end, when all the rest has passed too.
 set -euo pipefail
@@ -8,6 +8,8 @@ rt fmt --check
 for package in player oracle bench; do
   cargo fmt --check --manifest-path $package/Cargo.toml
 done
+docs/public.sh
+docs/believed.sh
 log=$(mktemp)
 trap 'rm -f "$log"' EXIT
 rt ci | tee "$log"

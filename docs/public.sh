@@ -1,0 +1,56 @@
+#!/usr/bin/env bash
+# Holds docs/THEOREMS.md to the public set: what crate writeback re-exports, methods of its types included, and what crate exports gives C. Each call has no `requires`,
+# an `ensures`, a row in the page's part "Public calls", and, where its answer is an enum, that enum's meaning in its promise. Prints what is wrong and then fails.
+set -euo pipefail
+cd "$(dirname "$0")/.."
+
+# A line for each public function of a crate: CRATE NAME ANSWER, and what its contract has. NAME is TYPE::METHOD for a method.
+functions() {
+    for crate in crates/*/; do
+        crate=${crate%/}
+        awk -v crate="${crate#crates/}" '
+            /^impl / { type = $2 "::" }
+            /^}/ { type = "" }
+            /^ *pub (extern "C" )?fn / { text = ""; taking = 1 }
+            taking { text = text " " $0 }
+            taking && /\{$/ && !/(requires|ensures) \{$/ {
+                taking = 0
+                name = text; sub(/.*[ ]fn /, "", name); sub(/.*pub fn /, "", name); sub(/\(.*/, "", name)
+                answer = "-"
+                if (match(text, /\) -> [A-Za-z0-9_:]+/)) { answer = substr(text, RSTART + 5, RLENGTH - 5); sub(/.*::/, "", answer) }
+                print crate, type name, answer, (text ~ / requires \{/ ? "requires" : "total"), (text ~ / ensures \{/ ? "ensures" : "silent"), (text ~ /(Means|Number) r / ? "means" : "bare")
+            }' "$crate"/src/*.rt
+    done
+}
+functions=$(functions)
+enums=$(grep -ohE '^pub enum \w+' crates/*/src/*.rt | sed 's/pub enum //' | sort -u)
+
+# The lines of what writeback re-exports: a function by its name, a type by its methods.
+reexported() {
+    sed -nE 's/^pub use (\w+)::(\w+);.*/\1 \2/p' crates/writeback/src/lib.rt | while read -r crate name; do
+        awk -v crate="$crate" -v name="$name" '$1 == crate && ($2 == name || index($2, name "::") == 1)' <<< "$functions"
+    done
+}
+exported() { awk '$1 == "exports"' <<< "$functions"; }
+
+# The names in the first column of the page's tables of public calls.
+documented() {
+    awk '/^## / { inside = ($0 == "## Public calls") } inside && /^\| `/' docs/THEOREMS.md | cut -d '|' -f 2 | grep -oE '`[A-Za-z0-9_:]+`' | tr -d '`'
+}
+
+wrong=0
+if ! diff <( (reexported; exported) | cut -d ' ' -f 2 | sort) <(documented | sort) >&2; then
+    echo "public: the calls of docs/THEOREMS.md (>) are not those of the crates (<)" >&2
+    wrong=1
+fi
+while read -r crate name answer total ensures means; do
+    [ "$total" = total ] || { echo "public: $crate $name has a requires" >&2; wrong=1; }
+    [ "$ensures" = ensures ] || { echo "public: $crate $name promises nothing" >&2; wrong=1; }
+    # C's answers are structs.
+    if [ "$crate" != exports ] && [ "$means" != means ] && grep -qx "$answer" <<< "$enums"; then
+        echo "public: $crate $name answers the enum $answer, whose meaning is not in its promise" >&2
+        wrong=1
+    fi
+done < <(reexported; exported)
+[ "$wrong" = 0 ] || exit 1
+echo "public: $(reexported | wc -l) calls of crate writeback and $(exported | wc -l) of the C interface are total, promise their outcome and are in docs/THEOREMS.md"
