@@ -42,6 +42,7 @@ static_assert(offsetof(wb_combiner, lod) == 72, "last");
 static_assert(sizeof(wb_answer) == 8 && offsetof(wb_answer, value) == 4, "two words");
 static_assert(sizeof(wb_selectors) == 24 && offsetof(wb_selectors, cyc1) == 16, "two words and sixteen bytes");
 static_assert(sizeof(wb_color_answer) == 20 && offsetof(wb_color_answer, rgba) == 4, "a flag and a colour");
+static_assert(sizeof(wb_strict_answer) == 4 && offsetof(wb_strict_answer, word) == 2, "a flag, padding and a word");
 static_assert(sizeof(wb_combiner_answer) == 80 && offsetof(wb_combiner_answer, combiner) == 4, "a flag and a combiner");
 static_assert(sizeof(wb_geometry) == 20 && offsetof(wb_geometry, bottom) == 16, "a kind and four sides");
 static_assert(sizeof(wb_fragment) == 24 && offsetof(wb_fragment, shade_alpha) == 20, "a mask, a colour and an alpha");

@@ -1,6 +1,6 @@
 #!/usr/bin/env bash
-# Which definitions a reader must believe: those that the contracts of the public calls cite, those of the theorem on whole lists, of the proved table and of the law
-# `one-range`, and, through their bodies, what these cite in turn. Every other definition under crates/*/specs is vocabulary of inner functions, tied to the believed
+# Which definitions a reader must believe: those that the contracts of the public calls cite, those of the theorem on whole lists, of the proved table, of the law
+# `one-range` and of the needs of the loads, and, through their bodies, what these cite in turn. Every other definition under crates/*/specs is vocabulary of inner functions, tied to the believed
 # ones by proof. Holds the first line of each file of specs/, and the tables of docs/THEOREMS.md, to that; prints what is wrong and then fails.
 set -euo pipefail
 cd "$(dirname "$0")/.."
@@ -132,7 +132,7 @@ specs {
         file_of[call] = file; gathering = 0
     }
     if (call == "") next
-    if (line ~ /^ *requires/) { needs[call] = 1; gathering = 0 }
+    if (line ~ /^ *requires/) gathering = 0
     if (line ~ /^ *ensures/) gathering = 1
     if (line ~ /^ *\{$/) { gathering = 0; call_done = call; call = ""; next }
     if (gathering) contract[call] = contract[call] " " line
@@ -170,13 +170,12 @@ END {
         c = made[k]
         if (!open_fn[c]) continue
         if ((head_of[c] in public) || c ~ /^exports::/) {
-            if (c in needs) continue
             cite("call " c, file_of[c], "", contract[c])
             n = split(cited["call " c], part, " ")
             for (i = 1; i <= n; i++) root(part[i])
         }
     }
-    root("secrecy/Runs/Secret"); root("frame/Alike/Alike"); root("table/Table/table"); root("table/Table/Holds"); root("pack/Depth/Within")
+    root("secrecy/Runs/Secret"); root("frame/Alike/Alike"); root("table/Table/table"); root("table/Table/Holds"); root("pack/Depth/Within"); root("frame/Loads/ColorKnown"); root("frame/Loads/CoverageKnown"); root("frame/Loads/Loadable")
     for (at = 1; at <= last; at++) { n = split(cited[queue[at]], part, " "); for (i = 1; i <= n; i++) root(part[i]) }
 
     for (i = 1; i <= file_count; i++) {
@@ -198,6 +197,10 @@ table() {
     awk -v want="$1" '$1 == want { if (!($2 in names)) order[++n] = $2; names[$2] = names[$2] (names[$2] == "" ? "" : ", ") $3 }
         END { for (i = 1; i <= n; i++) print "| " order[i] " | " names[order[i]] " |" }' <<< "$files"
 }
+if [ -n "$(find crates/*/specs crates/*/src -mindepth 2)" ] || grep -nE '^(ghost )?use .*\{[^}]*$' crates/*/specs/*.antt crates/*/src/*.rt >&2; then
+    echo "believed: a folder under specs/ or src/, or a use line that goes on, is not read" >&2
+    exit 1
+fi
 files=$(closure)
 documented() { awk -v want="### $1" '/^#/ { inside = ($0 == want) } inside && /^\| [a-z_]+ \| [A-Z]/' docs/THEOREMS.md; }
 if ! diff <(table believed) <(documented "To be believed") >&2 || ! diff <(table inner) <(documented "Inner vocabulary") >&2; then

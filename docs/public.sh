@@ -23,6 +23,18 @@ functions() {
     done
 }
 functions=$(functions)
+
+# What this script could not read is an error, and not passed over.
+loud() {
+    echo "public: $1" >&2
+    exit 1
+}
+[ -z "$(find crates/*/src -mindepth 2)" ] || loud "a folder under src/ is not read"
+[ "$(wc -l <<< "$functions")" = "$(cat crates/*/src/*.rt | grep -cE '^ *pub .*\bfn ')" ] || loud "a public function was not read"
+! grep -vnE '^(//.*|pub use \w+::\w+;)?$' crates/writeback/src/*.rt >&2 || loud "crate writeback has a line that is no plain re-export"
+while read -r crate name; do
+    grep -qE "^pub (fn|struct|enum) $name\b" "crates/$crate/src/lib.rt" || loud "$crate::$name is no function, struct or enum of its crate's root"
+done < <(sed -nE 's/^pub use (\w+)::(\w+);/\1 \2/p' crates/writeback/src/lib.rt)
 enums=$(grep -ohE '^pub enum \w+' crates/*/src/*.rt | sed 's/pub enum //' | sort -u)
 
 # The lines of what writeback re-exports: a function by its name, a type by its methods.
@@ -53,4 +65,5 @@ while read -r crate name answer total ensures means; do
     fi
 done < <(reexported; exported)
 [ "$wrong" = 0 ] || exit 1
+[ -n "$(reexported)" ] && [ -n "$(exported)" ] || loud "nothing was found"
 echo "public: $(reexported | wc -l) calls of crate writeback and $(exported | wc -l) of the C interface are total, promise their outcome and are in docs/THEOREMS.md"

@@ -13,8 +13,8 @@ use Rattle.cell.specs.declared.Colors.{Colors}
 use Rattle.cell.specs.Marks.{highestMark, colorMarked, coverageMarked, coverageOf}
 use Rattle.cell.specs.Rules.{orZero}
 use Rattle.frame.specs.Frame.{Frame, cellAt}
-use Rattle.frame.specs.Fits.{Fit, knownCell}
-use Rattle.frame.specs.Loads.{CoverageKnown, Loadable, colorsAt, colorsIf}
+use Rattle.frame.specs.Fits.{Fit, knownCell, colorsAt, colorsIf}
+use Rattle.frame.specs.Loads.{CoverageKnown, Loadable}
 use Rattle.frame.specs.Checks.{markOk}
 use Rattle.frame.specs.Told.{atMost}
 use Rattle.frame.proofs.Tests.{goes-on}

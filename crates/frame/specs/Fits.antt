@@ -8,6 +8,15 @@ use Rattle.cell.specs.declared.Cell.{Cell}
 use Rattle.cell.specs.Marks.{highestMark, colorMarked, coverageMarked, coverageOf}
 use Rattle.cell.specs.Rules.{orZero}
 use Rattle.frame.specs.Frame.{Frame}
+use Rattle.cell.specs.declared.Colors.{Colors}
+
+-- what is loaded of a pixel: its colour bytes
+abbrev pub colorsAt : List ℕ → ℕ → Colors
+colorsAt colors p = record { red = getD colors (3 * p) 0; green = getD colors (3 * p + 1) 0; blue = getD colors (3 * p + 2) 0 }
+
+-- three bytes as far as they are known: else they stand as 0
+abbrev pub colorsIf : Bool → Colors → Colors
+colorsIf known c = record { red = cond known (c .red) 0; green = cond known (c .green) 0; blue = cond known (c .blue) 0 }
 
 -- a frame of n pixels that numbers 1 to 3 let through: slices of their lengths, no mark above the highest, and no known coverage above 7
 pub record Fit (n : ℕ) (f : Frame) : Type 0 where

@@ -1,10 +1,9 @@
--- Inner vocabulary. What may be loaded of a pixel: a colour or coverage byte only where the mark says that it is known. Definitions only. Source: docs/RULES.md, The frame.
+-- To be believed. What may be loaded of a pixel: a colour or coverage byte only where the mark says that it is known. Definitions only. Source: docs/RULES.md, The frame.
 use Prim.Native.Nat.{ℕ, _+_, _*_, _<_, _≤_}
 use mathlib.Core.Path.{_≡_}
-use mathlib.Core.Bool.{Bool, true, cond}
+use mathlib.Core.Bool.{true}
 use mathlib.Core.List.{List}
 use lib.ListN.{length, getD}
-use Rattle.cell.specs.declared.Colors.{Colors}
 use Rattle.cell.specs.Marks.{colorMarked, coverageMarked, coverageOf}
 use Rattle.cell.specs.Rules.{orZero}
 use Rattle.frame.specs.Frame.{Frame}
@@ -16,7 +15,7 @@ ColorKnown marks p = colorMarked (getD marks p 0) ≡ true
 abbrev pub CoverageKnown : List ℕ → ℕ → Type 0
 CoverageKnown marks p = coverageMarked (getD marks p 0) ≡ true
 
--- ---- its bytes are there where they are known. Of an unmarked byte this says nothing, so that no load of it can be shown to be in bounds
+-- ---- its bytes are there where they are known. Where p is unmarked this says nothing, so that no load before the question can be shown to be in bounds
 abbrev pub ColorThere : List ℕ → List ℕ → ℕ → Type 0
 ColorThere colors marks p = ColorKnown marks p → 3 * p + 2 < length colors
 
@@ -29,11 +28,3 @@ pub record Loadable (f : Frame) (p : ℕ) : Type 0 where
   pub color : ColorThere (f .colors) (f .marks) p
   pub coverage : CoverageThere (f .coverages) (f .marks) p
   pub sound : orZero (coverageOf (getD (f .marks) p 0) (getD (f .coverages) p 0)) ≤ 7
-
--- ---- what is loaded
-abbrev pub colorsAt : List ℕ → ℕ → Colors
-colorsAt colors p = record { red = getD colors (3 * p) 0; green = getD colors (3 * p + 1) 0; blue = getD colors (3 * p + 2) 0 }
-
--- three bytes as far as they are known: else they stand as 0
-abbrev pub colorsIf : Bool → Colors → Colors
-colorsIf known c = record { red = cond known (c .red) 0; green = cond known (c .green) 0; blue = cond known (c .blue) 0 }

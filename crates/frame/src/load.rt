@@ -5,7 +5,8 @@ ghost use mathlib.Core.Bool.{cond};
 ghost use Prim.Native.Nat.{_<_};
 ghost use lib.ListN.{length, getD};
 ghost use Rattle.cell.specs.Marks.{colorMarked, coverageMarked};
-ghost use Rattle.frame.specs.Loads.{ColorKnown, CoverageKnown, ColorThere, CoverageThere, colorsAt, colorsIf};
+ghost use Rattle.frame.specs.Loads.{ColorKnown, CoverageKnown, ColorThere, CoverageThere};
+ghost use Rattle.frame.specs.Fits.{colorsAt, colorsIf};
 use cell::Colors;
 
 // The colour bytes of a pixel whose colour is known.

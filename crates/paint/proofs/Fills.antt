@@ -21,8 +21,7 @@ use Rattle.raster.specs.Parts.{from}
 use Rattle.raster.specs.Emitted.{Emit}
 use Rattle.raster.proofs.Parts.{from-more, from-none}
 use Rattle.frame.specs.Frame.{Frame, frameOf, cellAt, putCell}
-use Rattle.frame.specs.Fits.{Fit, putIf}
-use Rattle.frame.specs.Loads.{colorsAt, colorsIf}
+use Rattle.frame.specs.Fits.{Fit, putIf, colorsAt, colorsIf}
 use Rattle.paint.specs.declared.pen.Pen.{Pen}
 use Rattle.paint.specs.Steps.{sourceOf, stepFrame}
 use Rattle.paint.specs.Pixel.{Drew, emitOf, Room}

@@ -70,7 +70,7 @@ packColorMeans packed.Refused = refused 0
 unfoldable pub packColorCall : Rgba8 → ℕ → ℕ → Outcome ℕ
 packColorCall rgba coverage threshold = checked (coverageOk coverage) (packColorOf rgba coverage threshold) 0
 
--- ---- Writer::supported and Writer::pixel_bytes
+-- ---- supported and pixel_bytes
 unfoldable pub supportedCall : Writer → Outcome Bool
 supportedCall w = checked (writerOk w) (supportedOf w) false
 
@@ -81,7 +81,7 @@ pixelBytesMeans size.Refused = refused 0
 unfoldable pub pixelBytesCall : Writer → Outcome ℕ
 pixelBytesCall w = checked (writerOk w) (pixelBytesOf (w .layout)) 0
 
--- ---- Writer::encode
+-- ---- encode
 abbrev pub noWord : Bytes2
 noWord = (0, 0)
 

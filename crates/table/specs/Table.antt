@@ -35,7 +35,7 @@ use Rattle.raster.specs.Emitted.{Emit, cornerOf}
 use Rattle.frame.specs.Frame.{Frame, frameOf}
 use Rattle.draw.specs.Draw.{DrawArgs, drawArgs, Plan, planOf, drawAnswer}
 
--- a row of the paper, a value of the definitions, and what it must be
+-- one of the ten rows, a value of the definitions, and what it must be
 pub record Entry : Type 0 where
   pub row : ℕ
   pub value : ℤ
@@ -157,6 +157,10 @@ unknown = frameOf (replicate 12 0) (replicate 4 0) (replicate 4 0)
 abbrev pub number : DrawArgs → ℤ
 number d = pos (drawAnswer d 2 2 unknown .number)
 
+-- and the count of pixels that it answers
+abbrev pub answered : DrawArgs → ℤ
+answered d = pos (drawAnswer d 2 2 unknown .pixels)
+
 -- the pixels that it emits
 abbrev pub planned : Plan → List Emit
 planned (Plan.refuse n) = []
@@ -211,6 +215,7 @@ table =
     -- rectangle sides 0.25, 0, 1, 1 give pixel 0 mask 77 hexadecimal, six samples; without antialias it is not emitted
     ∷ entry 8 (pos (rectMask sides 0 0)) (pos 0x77)
     ∷ entry 8 (number (drawSides true)) (pos 0)
+    ∷ entry 8 (answered (drawSides true)) (pos 1)
     ∷ entry 8 (count (drawSides true)) (pos 1)
     ∷ entry 8 (pixel (drawSides true)) (pos 0)
     ∷ entry 8 (mask (drawSides true)) (pos 0x77)
@@ -220,6 +225,7 @@ table =
     -- the thin triangle gives mask 40 hexadecimal, one sample, at pixel (0, 1), which is pixel 2; without antialias it is not emitted
     ∷ entry 9 (pos (maskOf (edgesOf (triOf (map cornerOf (sorted thin))) 1) 0)) (pos 0x40)
     ∷ entry 9 (number (drawThin true)) (pos 0)
+    ∷ entry 9 (answered (drawThin true)) (pos 1)
     ∷ entry 9 (count (drawThin true)) (pos 1)
     ∷ entry 9 (pixel (drawThin true)) (pos 2)
     ∷ entry 9 (mask (drawThin true)) (pos 0x40)
