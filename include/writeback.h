@@ -241,7 +241,8 @@ wb_answer wb_blend(wb_mode mode, wb_combiner combiner, wb_rgba rgba, wb_rgba mem
 wb_answer wb_pack_color(uint32_t rgba, uint8_t coverage, uint8_t dither);
 uint32_t wb_pack_depth(float depth);
 
-/* An image is named by its fmt, siz and width, and by whether it holds depths. These two ask whether its pixels can be encoded, and how many bytes one takes; a width out of range is turned away, though the answer does not turn on it. */
+/* An image is named by its fmt, siz and width, and by whether it holds depths. These two ask whether its pixels can be encoded, and how many bytes one takes; a
+ * width out of range is turned away, though the answer does not turn on it. */
 wb_answer wb_supported(uint8_t fmt, uint8_t siz, uint32_t width, bool depth);
 wb_answer wb_pixel_bytes(uint8_t fmt, uint8_t siz, uint32_t width, bool depth);
 
