@@ -1,7 +1,7 @@
 #!/usr/bin/env bash
-# The one test command: the layout, the public set and the believed definitions beside docs/THEOREMS.md, rt ci, the comparison with the Rust, the C interface called from C, and the player's crate. rt ci comes first, because it
-# removes target/ and proves every crate, and what links the static library builds it on those proofs; its last line, 'N passed, 0 failed', is said again at
-# the end, when all the rest has passed too.
+# The one test command: the layout, the public set and the believed definitions beside docs/THEOREMS.md, rt ci, the comparison with the Rust, the C interface called
+# from C, and the player's crate. rt ci comes before what links the static library, because it removes target/ and proves every crate, and the library is built on
+# those proofs; its last line, 'N passed, 0 failed', is said again at the end, when all the rest has passed too.
 set -euo pipefail
 cd "$(dirname "$0")"
 rt fmt --check

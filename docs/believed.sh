@@ -127,14 +127,14 @@ specs {
         open_call = (line ~ /^ *pub /); name = line
         sub(/^ *(pub )?(extern "C" )?fn /, "", name); sub(/[(<].*/, "", name)
         call = crate "::" (type != "" ? type "::" : "") name
-        head_of[call] = crate "::" (type != "" ? type : name); method[call] = (type != ""); open_fn[call] = open_call
+        head_of[call] = crate "::" (type != "" ? type : name); open_fn[call] = open_call
         if (!(call in file_of)) made[++calls_made] = call
         file_of[call] = file; gathering = 0
     }
     if (call == "") next
     if (line ~ /^ *requires/) gathering = 0
     if (line ~ /^ *ensures/) gathering = 1
-    if (line ~ /^ *\{$/) { gathering = 0; call_done = call; call = ""; next }
+    if (line ~ /^ *\{$/) { gathering = 0; call = ""; next }
     if (gathering) contract[call] = contract[call] " " line
     next
 }
