@@ -4,9 +4,6 @@ use std::env;
 use std::path::PathBuf;
 
 fn main() {
-    if env::var_os("CARGO_FEATURE_MOCK").is_some() {
-        return;
-    }
     println!("cargo:rerun-if-env-changed=LIBRARY");
     let package = PathBuf::from(env::var("CARGO_MANIFEST_DIR").unwrap());
     let library = package.join(env::var("LIBRARY").unwrap_or_else(|_| "../target/staticlib".into()));

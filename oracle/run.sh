@@ -15,6 +15,6 @@ fi
 cargo build --release --offline --quiet
 target/release/oracle "$@"
 if [ $# = 0 ]; then
-  # The player's crate and its sample beside the original.
+  # The player's crate, its sample and the recorded samples beside the original.
   cargo test --release --offline --quiet
 fi

@@ -2,6 +2,9 @@
 
 use crate::library::{Combiner, Mode, Rgba, Uniform};
 
+/// The seed where none is named, and that of the recorded samples.
+pub const SEED: u64 = 0x0064_0064;
+
 /// Floats at which something changes: clamping, rounding, ranges, the blender's least divisor, what the interface cuts
 /// off, what a float can hold.
 const LIMITS: [f32; 37] = [

@@ -18,12 +18,6 @@ pub mod inputs;
 #[allow(unsafe_code)]
 pub mod library;
 pub mod lists;
-#[cfg(feature = "mock")]
-#[allow(unsafe_code)]
-pub mod mock;
-#[cfg(feature = "mock")]
-#[allow(unsafe_code)]
-pub mod mock_draw;
 pub mod record;
 pub mod record_lists;
 pub mod rust;

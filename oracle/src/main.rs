@@ -9,6 +9,7 @@ use oracle::calls::*;
 use oracle::compare::{run, Line, Outcome, Part};
 use oracle::compare_numbers::one_float;
 use oracle::compare_selectors::table;
+use oracle::inputs::SEED;
 use oracle::{
     compare_combiner, compare_frame, compare_numbers, compare_pack, compare_pixel, compare_raster, compare_runs,
     compare_selectors, record, record_lists,
@@ -17,8 +18,6 @@ use std::process::ExitCode;
 
 // The native order of bytes is the little-endian one (docs/RULES.md, Packing).
 const _: () = assert!(cfg!(target_endian = "little"));
-
-const SEED: u64 = 0x0064_0064;
 
 type Comparison = fn(&Part) -> Outcome;
 
