@@ -5,7 +5,7 @@
 set -euo pipefail
 cd "$(dirname "$0")"
 rt fmt --check
-for package in player oracle bench; do
+for package in ffi player oracle bench; do
   cargo fmt --check --manifest-path $package/Cargo.toml
 done
 docs/public.sh

@@ -8,6 +8,5 @@ if [ ! -d "$RUST_SRC/ultragfx" ]; then
   echo "bench: no Rust sources at $RUST_SRC" >&2
   exit 1
 fi
-../library.sh
 cargo build --release --offline --quiet
 target/release/bench "$@"

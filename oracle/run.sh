@@ -11,7 +11,6 @@ if [ ! -d "$RUST_SRC/ultragfx" ]; then
   echo "oracle: no Rust sources at $RUST_SRC: the comparison is left out"
   exit 0
 fi
-../library.sh
 cargo build --release --offline --quiet
 target/release/oracle "$@"
 if [ $# = 0 ]; then

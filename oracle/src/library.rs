@@ -1,169 +1,56 @@
-//! The port's C interface (crate `exports`): its structs, its functions, and a safe function for each.
+//! The port's C interface (crate `writeback_sys`): its structs under shorter names and as words, and a safe function over
+//! each of its functions.
 
 use crate::draws::{Draw, Frame, Read, Shape};
 use crate::words::{Sheet, Words};
+use writeback_sys::{wb_admitted, wb_draw, wb_pixel, wb_read_word, wb_read_words};
+pub use writeback_sys::{
+    wb_answer as Answer, wb_color_answer as ColorAnswer, wb_combiner as Combiner, wb_combiner_answer as CombinerAnswer,
+    wb_drawn as DrawAnswer, wb_fragment as FragmentAnswer, wb_geometry as Geometry, wb_mode as Mode, wb_rgba as Rgba,
+    wb_run as RunAnswer, wb_scissor as Scissor, wb_selectors as Selectors, wb_strict_answer as StrictAnswer,
+    wb_uniform as Uniform,
+};
 
-/// A struct of the interface, and its fields as words.
-macro_rules! c_struct {
-    ($(#[$doc:meta])* $name:ident { $($field:ident: $kind:ty,)* }) => {
-        $(#[$doc])*
-        #[repr(C)]
-        #[derive(Clone, Copy, Debug, Default)]
-        pub struct $name {
-            $(pub $field: $kind,)*
-        }
-
+/// The words of structs: those of all their fields, in this order.
+macro_rules! words {
+    ($($name:ident { $($field:ident)* })*) => {$(
         impl Words for $name {
             fn words(&self, sheet: &mut Sheet) {
-                $(self.$field.words(sheet);)*
+                let $name { $($field),* } = self;
+                $($field.words(sheet);)*
             }
 
             fn alike(&self, other: &Self) -> bool {
                 $(self.$field.alike(&other.$field))&&*
             }
         }
-    };
+    )*};
 }
 
-c_struct! { Rgba { r: f32, g: f32, b: f32, a: f32, } }
-
-c_struct! {
-    /// The Rust's `RenderMode`, its enums by their number.
+words! {
+    Rgba { r g b a }
     Mode {
-        cycle_type: u32,
-        blender_mux: u16,
-        rgb_dither: u8,
-        alpha_dither: u8,
-        cvg_dst: u8,
-        blend_class: u8,
-        fallback_class: u8,
-        z_mode: u8,
-        alpha_compare: u8,
-        key_enabled: bool,
-        image_read: bool,
-        antialias: bool,
-        alpha_cvg_select: bool,
-        color_on_coverage: bool,
-        force_blend: bool,
-        non_canonical_blend: bool,
-        z_source_prim: bool,
-        z_test: bool,
-        z_write: bool,
-        fog: bool,
-        cvg_x_alpha: bool,
+        cycle_type blender_mux rgb_dither alpha_dither cvg_dst blend_class fallback_class z_mode alpha_compare
+        key_enabled image_read antialias alpha_cvg_select color_on_coverage force_blend non_canonical_blend
+        z_source_prim z_test z_write fog cvg_x_alpha
     }
-}
-
-c_struct! {
-    /// The Rust's `CombinerUniform`.
     Uniform {
-        combine_l: u32,
-        combine_h: u32,
-        cycle_type: u32,
-        tex_enable: u32,
-        blender_mux: u32,
-        force_blend: u32,
-        alpha_flags: u32,
-        alpha_threshold: f32,
-        prim: Rgba,
-        env: Rgba,
-        blend_color: Rgba,
-        fog_color: Rgba,
-        inv_tex_size: [f32; 4],
-        inv_tex1_size: [f32; 4],
-        lod_params: [f32; 4],
-        inv_detail_size: [f32; 4],
-        frame: [u32; 4],
-        is_rect: u32,
-        coverage_slot: u32,
-        fill_word: u32,
-        fill_siz: u32,
-        primitive_depth: [u32; 4],
-        native_scale: [f32; 4],
-        raster: [u32; 4],
+        combine_l combine_h cycle_type tex_enable blender_mux force_blend alpha_flags alpha_threshold
+        prim env blend_color fog_color inv_tex_size inv_tex1_size lod_params inv_detail_size
+        frame is_rect coverage_slot fill_word fill_siz primitive_depth native_scale raster
     }
+    Combiner { selectors prim env blend fog lod }
+    Answer { number value }
+    Scissor { left top width height }
+    Geometry { kind left top right bottom }
+    Selectors { raw_l raw_h cyc0 cyc1 }
+    ColorAnswer { some rgba }
+    CombinerAnswer { some combiner }
+    StrictAnswer { some word }
 }
 
-const _: () = assert!(std::mem::size_of::<Uniform>() == 240);
-
-c_struct! {
-    /// The Rust's `Combiner`. The selectors are ca, cb, cc, cd, aa, ab, ac, ad by their number in the Rust's enums.
-    Combiner {
-        selectors: [u8; 8],
-        prim: Rgba,
-        env: Rgba,
-        blend: Rgba,
-        fog: Rgba,
-        lod: f32,
-    }
-}
-
-c_struct! {
-    /// The number (docs/RULES.md), and the value: a coverage, 1 for yes, a word, or bytes with the first lowest.
-    Answer { number: u32, value: u32, }
-}
-
-c_struct! {
-    /// In pixels.
-    Scissor { left: u32, top: u32, width: u32, height: u32, }
-}
-
-c_struct! {
-    /// Kind 0 is nothing, 1 triangles, 2 a rectangle. The sides are a rectangle's.
-    Geometry { kind: u32, left: f32, top: f32, right: f32, bottom: f32, }
-}
-
-c_struct! {
-    /// The number, and how many pixels were emitted.
-    DrawAnswer { number: u32, pixels: u64, }
-}
-
-c_struct! {
-    /// A run's own number, and how many words were read.
-    RunAnswer { number: u32, words: u64, }
-}
-
-c_struct! {
-    /// What a pixel emits. Where the mask is 0 it emits nothing, and the rest is no part of the answer.
-    FragmentAnswer { mask: u32, rgba: Rgba, shade_alpha: f32, }
-}
-
-c_struct! { Selectors { raw_l: u32, raw_h: u32, cyc0: [u8; 8], cyc1: [u8; 8], } }
-
-/// A struct of the interface for an `Option`. Zeros stand beside `some: false`.
-macro_rules! c_option {
-    ($name:ident { $field:ident: $kind:ty }) => {
-        #[repr(C)]
-        #[derive(Clone, Copy, Debug)]
-        pub struct $name {
-            pub some: bool,
-            pub $field: $kind,
-        }
-
-        impl From<Option<$kind>> for $name {
-            fn from(value: Option<$kind>) -> Self {
-                $name { some: value.is_some(), $field: value.unwrap_or_default() }
-            }
-        }
-
-        impl Words for $name {
-            fn words(&self, sheet: &mut Sheet) {
-                self.some.words(sheet);
-                self.$field.words(sheet);
-            }
-
-            fn alike(&self, other: &Self) -> bool {
-                self.some == other.some && self.$field.alike(&other.$field)
-            }
-        }
-    };
-}
-
-c_option! { ColorAnswer { rgba: Rgba } }
-c_option! { CombinerAnswer { combiner: Combiner } }
-c_option! { StrictAnswer { word: u16 } }
-
-/// Every function of the interface: the name of its call's struct (calls.rs), its own name, its symbol and its type.
+/// Every function that takes plain values: the name of its call's struct (calls.rs), its own name, its symbol and its type,
+/// which the compiler holds to the declaration.
 macro_rules! interface {
     ($then:ident) => {
         $then! {
@@ -206,118 +93,17 @@ macro_rules! interface {
 
 pub(crate) use interface;
 
-/// The library's symbols, and a safe function over each.
+/// A function for each, by its own name.
 macro_rules! functions {
-    ($($call:ident $name:ident = $symbol:ident($($argument:ident: $kind:ty),*) -> $answer:ty;)*) => {
-        extern "C" {
-            $(fn $symbol($($argument: $kind),*) -> $answer;)*
+    ($($call:ident $name:ident = $symbol:ident($($argument:ident: $kind:ty),*) -> $answer:ty;)*) => {$(
+        #[allow(clippy::too_many_arguments)] // As many as the interface's function has.
+        pub fn $name($($argument: $kind),*) -> $answer {
+            writeback_sys::$symbol($($argument),*)
         }
-
-        $(
-            #[allow(clippy::too_many_arguments)]
-            pub fn $name($($argument: $kind),*) -> $answer {
-                // SAFETY: the library's functions are total, and take and give plain values.
-                unsafe { $symbol($($argument),*) }
-            }
-        )*
-    };
+    )*};
 }
 
 interface! { functions }
-
-// The functions that take slices: each as a pointer and a length.
-
-type Floats = *const f32;
-type Bytes = *const u8;
-type BytesMut = *mut u8;
-type Indices = *const u32;
-
-extern "C" {
-    fn wb_admitted(
-        combiner: Combiner,
-        geometry: Geometry,
-        vertices: Floats,
-        vertices_len: usize,
-        present: Bytes,
-        present_len: usize,
-        indices: Indices,
-        indices_len: usize,
-    ) -> bool;
-
-    fn wb_pixel(
-        mode: Mode,
-        combiner: Combiner,
-        cull: bool,
-        geometry: Geometry,
-        vertices: Floats,
-        vertices_len: usize,
-        present: Bytes,
-        present_len: usize,
-        indices: Indices,
-        indices_len: usize,
-        i: usize,
-        y: u32,
-        x: u32,
-    ) -> FragmentAnswer;
-
-    fn wb_draw(
-        width: u32,
-        height: u32,
-        colors: BytesMut,
-        colors_len: usize,
-        coverages: BytesMut,
-        coverages_len: usize,
-        marks: BytesMut,
-        marks_len: usize,
-        mode: Mode,
-        uniform: Uniform,
-        cull: bool,
-        scissor: Scissor,
-        geometry: Geometry,
-        vertices: Floats,
-        vertices_len: usize,
-        present: Bytes,
-        present_len: usize,
-        indices: Indices,
-        indices_len: usize,
-    ) -> DrawAnswer;
-
-    fn wb_read_word(
-        width: u32,
-        height: u32,
-        colors: Bytes,
-        colors_len: usize,
-        coverages: Bytes,
-        coverages_len: usize,
-        marks: Bytes,
-        marks_len: usize,
-        pixel: usize,
-        fmt: u8,
-        siz: u8,
-        rgb_dither: u8,
-        big_endian: bool,
-    ) -> Answer;
-
-    fn wb_read_words(
-        width: u32,
-        height: u32,
-        colors: Bytes,
-        colors_len: usize,
-        coverages: Bytes,
-        coverages_len: usize,
-        marks: Bytes,
-        marks_len: usize,
-        first: usize,
-        fmt: u8,
-        siz: u8,
-        rgb_dither: u8,
-        big_endian: bool,
-        words: BytesMut,
-        words_len: usize,
-        numbers: BytesMut,
-        numbers_len: usize,
-    ) -> RunAnswer;
-}
 
 /// A call: the arguments before the shape's lists, the shape, and the arguments behind them.
 // SAFETY: the library's functions are total; each pointer and length is that of a slice that is lent for the call, and

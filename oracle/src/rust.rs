@@ -302,15 +302,18 @@ pub fn in_range(x: f32, y: f32) -> bool {
 }
 
 pub fn combiner_new(uniform: Uniform, mode: Mode) -> CombinerAnswer {
-    writeback::combiner_new(&combiner_uniform(uniform), render_mode(mode)).map(combiner).into()
+    let made = writeback::combiner_new(&combiner_uniform(uniform), render_mode(mode));
+    CombinerAnswer { some: made.is_some(), combiner: made.map(combiner).unwrap_or_default() }
 }
 
 pub fn combiner_color(combiner: Combiner, shade: Rgba) -> ColorAnswer {
-    writeback::color(parts(combiner), floats(shade)).map(rgba).into()
+    let color = writeback::color(parts(combiner), floats(shade));
+    ColorAnswer { some: color.is_some(), rgba: color.map(rgba).unwrap_or_default() }
 }
 
 pub fn strict_color(combiner: Combiner) -> StrictAnswer {
-    writeback::strict_color(parts(combiner)).into()
+    let word = writeback::strict_color(parts(combiner));
+    StrictAnswer { some: word.is_some(), word: word.unwrap_or_default() }
 }
 
 pub fn destination(mode: Mode, count: u8, memory: u8) -> Answer {
