@@ -1,5 +1,6 @@
 //! Builds the proved library by `library.sh` at the repository's root, and links it. Where `LIBRARY` is set it names a folder
-//! that holds `libexports.a` (a relative one is seen from this package), and nothing is built.
+//! that holds `libexports.a` (a relative one is seen from this package), and nothing is built. An empty `LIBRARY` links
+//! nothing: for a program that calls no function of the library.
 
 use std::path::{Path, PathBuf};
 use std::process::{exit, Command};
@@ -32,6 +33,7 @@ fn main() {
     println!("cargo:rerun-if-env-changed=LIBRARY");
     let package = PathBuf::from(env::var("CARGO_MANIFEST_DIR").unwrap());
     let folder = match env::var_os("LIBRARY") {
+        Some(folder) if folder.is_empty() => return,
         Some(folder) => package.join(folder),
         None => build(package.parent().unwrap()),
     };

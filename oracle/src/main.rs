@@ -1,8 +1,6 @@
 //! Compares the port's library with the Rust original, call by call, on many and hostile inputs.
 //!
-//!     oracle [SCALE [SEED [NAME]]]   compare; SCALE multiplies the tries at random; NAME compares that call alone
-//!     oracle record [SEED]           write a sample of the original's answers
-//!     oracle record-lists [SEED]     write a sample of lists of draws and word reads
+//!     oracle [SCALE [SEED [NAME]]]   SCALE multiplies the tries at random; NAME compares that call alone
 #![deny(unsafe_code)]
 
 use oracle::calls::*;
@@ -12,7 +10,7 @@ use oracle::compare_selectors::table;
 use oracle::inputs::SEED;
 use oracle::{
     compare_combiner, compare_frame, compare_numbers, compare_pack, compare_pixel, compare_raster, compare_runs,
-    compare_selectors, record, record_lists,
+    compare_selectors,
 };
 use std::process::ExitCode;
 
@@ -88,23 +86,21 @@ fn compare_all(scale: f64, seed: u64, only: Option<&String>) -> Result<(), Strin
 }
 
 fn usage() -> ExitCode {
-    eprintln!(
-        "oracle [SCALE [SEED [NAME]]] | oracle record [SEED] | oracle record-lists [SEED]   (seeds in hexadecimal)"
-    );
+    eprintln!("oracle [SCALE [SEED [NAME]]]   (the seed in hexadecimal)");
     ExitCode::from(2)
 }
 
-fn print(lines: Vec<String>) -> ExitCode {
-    lines.iter().for_each(|line| println!("{line}"));
-    ExitCode::SUCCESS
-}
-
-fn compare_words(words: &[String], seed: u64) -> ExitCode {
+fn main() -> ExitCode {
+    let words: Vec<String> = std::env::args().skip(1).collect();
     let scale = match words.first() {
         Some(word) => word.parse::<f64>().ok().filter(|scale| *scale > 0.0),
         None => Some(1.0),
     };
-    let Some(scale) = scale else {
+    let seed = match words.get(1) {
+        Some(word) => u64::from_str_radix(word, 16).ok(),
+        None => Some(SEED),
+    };
+    let (Some(scale), Some(seed), 0..=3) = (scale, seed, words.len()) else {
         return usage();
     };
     match compare_all(scale, seed, words.get(2)) {
@@ -113,19 +109,5 @@ fn compare_words(words: &[String], seed: u64) -> ExitCode {
             println!("{difference}");
             ExitCode::FAILURE
         }
-    }
-}
-
-fn main() -> ExitCode {
-    let words: Vec<String> = std::env::args().skip(1).collect();
-    let seed = match words.get(1) {
-        Some(word) => u64::from_str_radix(word, 16).ok(),
-        None => Some(SEED),
-    };
-    match (words.first().map(String::as_str), seed) {
-        (Some("record"), Some(seed)) if words.len() <= 2 => print(record::lines(seed)),
-        (Some("record-lists"), Some(seed)) if words.len() <= 2 => print(record_lists::lines(seed)),
-        (_, Some(seed)) if words.len() <= 3 => compare_words(&words, seed),
-        _ => usage(),
     }
 }

@@ -9,17 +9,17 @@ fn held(sample: &str, command: &str, recorded: Vec<String>) {
     let path = format!("{}/../crates/{sample}/stdin", env!("CARGO_MANIFEST_DIR"));
     let text = std::fs::read_to_string(&path).unwrap_or_else(|error| panic!("{path}: {error}"));
     for (i, (line, recorded)) in text.lines().zip(&recorded).enumerate() {
-        assert_eq!(line, recorded, "{path}, line {}: `oracle {command}` writes another", i + 1);
+        assert_eq!(line, recorded, "{path}, line {}: `record {command}` writes another", i + 1);
     }
-    assert_eq!(text.lines().count(), recorded.len(), "{path}: `oracle {command}` writes another number of lines");
+    assert_eq!(text.lines().count(), recorded.len(), "{path}: `record {command}` writes another number of lines");
 }
 
 #[test]
 fn answers() {
-    held("replay", "record", record::lines(SEED));
+    held("replay", "answers", record::lines(SEED));
 }
 
 #[test]
 fn lists() {
-    held("replay_lists", "record-lists", record_lists::lines(SEED));
+    held("replay_lists", "lists", record_lists::lines(SEED));
 }

@@ -3,7 +3,7 @@
 //
 //     name argument words = answer words
 //
-// The sample, the file stdin beside src/, is what `oracle record` writes with its own seed, 640064: plain and hostile
+// The sample, the file stdin beside src/, is what `record answers` writes with its own seed, 640064: plain and hostile
 // arguments for each call, and refused ones where a call refuses. Whole numbers and truth values agree where they are the same;
 // floats agree where they are equal, so 0.0 is -0.0, or both NaN. A line of another form is a disagreement.
 mod answers;

@@ -5,7 +5,7 @@
 //     draw mode uniform cull scissor geometry vertices present indices = number pixels colors coverages marks
 //     read pixel fmt siz rgb_dither big_endian = number value
 //
-// The sample, the file stdin beside src/, is what `oracle record-lists` writes with its own seed. Each call of a list works on
+// The sample, the file stdin beside src/, is what `record lists` writes with its own seed. Each call of a list works on
 // what the call before left; after each, reads and refused draws too, every byte of the three slices is held against the recorded ones.
 mod calls;
 mod tally;
