@@ -1,16 +1,15 @@
 #!/usr/bin/env bash
-# Builds the port's static library and the Rust original, and compares the two. The Rust sources are not part of this repository.
+# Builds the port's static library and the Rust original, and compares the two. Without the Rust sources there is nothing to compare, which is an error where CI=true is set.
 set -euo pipefail
 cd "$(dirname "$0")"
-export RUST_SRC="${RUST_SRC:-../../shared/docs/src}"
-if [ ! -d "$RUST_SRC/ultragfx" ]; then
+if ! RUST_SRC=$(./sources.sh); then
   if [ "${CI:-}" = true ]; then
-    echo "oracle: no Rust sources at $RUST_SRC" >&2
     exit 1
   fi
-  echo "oracle: no Rust sources at $RUST_SRC: the comparison is left out"
+  echo "oracle: the comparison is left out"
   exit 0
 fi
+export RUST_SRC
 cargo build --release --offline --quiet
 target/release/oracle "$@"
 if [ $# = 0 ]; then

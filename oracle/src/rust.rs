@@ -370,7 +370,7 @@ pub fn pixel_bytes(fmt: u8, siz: u8, width: u32, depth: bool) -> Answer {
     limited.or(|| coherence::writer(fmt, siz, width, depth).pixel_bytes() as u32)
 }
 
-#[allow(clippy::too_many_arguments)]
+#[allow(clippy::too_many_arguments)] // As many as the interface's function has.
 pub fn encode(
     fmt: u8,
     siz: u8,
