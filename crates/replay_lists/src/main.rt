@@ -5,12 +5,13 @@
 //     draw mode uniform cull scissor geometry vertices present indices = number pixels colors coverages marks
 //     read pixel fmt siz rgb_dither big_endian = number value
 //
-// The sample, the file stdin beside src/, is what `record lists` writes with its own seed. Each call of a list works on
-// what the call before left; after each, reads and refused draws too, every byte of the three slices is held against the recorded ones.
+// The sample, the file stdin beside src/, is what `record lists` writes with its own seed. After each call, reads and refused draws
+// too, every byte of the three slices is held against the recorded ones, which the next call of the list works on.
 mod calls;
 mod tally;
 mod text;
 
+use calls::Outcome;
 use sheet::line::line_end;
 use tally::Tally;
 ghost use Prim.Native.Nat.{_≤_};
@@ -35,6 +36,23 @@ struct Listed {
     tally: Tally,
 }
 
+// Whether the three slices of a frame are those recorded from `at` on. The next call works on the recorded ones.
+fn same_frame(
+    s: &[u8],
+    at: usize,
+    colors: &mut [u8],
+    coverages: &mut [u8],
+    marks: &mut [u8],
+) -> Outcome {
+    let first = text::string(s, at, colors);
+    let second = text::string(s, first.next, coverages);
+    let third = text::string(s, second.next, marks);
+    Outcome {
+        agrees: first.same & second.same & third.same,
+        next: third.next,
+    }
+}
+
 // A line of a draw whose arguments start at `at`.
 fn draw_line(
     s: &[u8],
@@ -49,9 +67,9 @@ fn draw_line(
 ) -> Tally {
     let drawn = calls::draw(s, at, width, height, colors, coverages, marks);
     let recorded = drawn.next;
-    let behind = text::same_frame(s, recorded, colors, coverages, marks);
+    let frame = same_frame(s, recorded, colors, coverages, marks);
     let counted = tally::draw(t, drawn.agrees);
-    tally::frame(counted, behind == end, recorded)
+    tally::frame(counted, frame.agrees & (frame.next == end), recorded)
 }
 
 // A line of a read. It leaves the frame as it was recorded before.
@@ -62,16 +80,16 @@ fn read_line(
     t: Tally,
     width: u32,
     height: u32,
-    colors: &[u8],
-    coverages: &[u8],
-    marks: &[u8],
+    colors: &mut [u8],
+    coverages: &mut [u8],
+    marks: &mut [u8],
 ) -> Tally {
     let read = calls::read_word(s, at, width, height, colors, coverages, marks);
     let recorded = t.recorded;
-    let behind = text::same_frame(s, recorded, colors, coverages, marks);
+    let frame = same_frame(s, recorded, colors, coverages, marks);
     let agrees = read.agrees & (read.next == end);
     let counted = tally::read(t, agrees);
-    tally::frame(counted, behind != 0, recorded)
+    tally::frame(counted, frame.agrees & (frame.next != 0), recorded)
 }
 
 fn draw_arguments(s: &[u8], at: usize) -> usize {
@@ -143,78 +161,36 @@ fn call_lines(
     Listed { at, tally }
 }
 
-// Fills a list's frame from the positions of its slices and replays the list; or one line that is no frame.
-fn list_filled(
-    s: &[u8],
-    end: usize,
-    next: usize,
-    t: Tally,
-    width: u32,
-    height: u32,
-    at_colors: usize,
-    at_coverages: usize,
-    at_marks: usize,
-    colors: &mut [u8],
-    coverages: &mut [u8],
-    marks: &mut [u8],
-) -> Listed
-    ensures { λ r. ⌜ next ≤ r .at ⌝ }
-{
-    let first = text::bytes(s, at_colors, colors);
-    let second = text::bytes(s, at_coverages, coverages);
-    let third = text::bytes(s, at_marks, marks);
-    if (first == 0) | (second == 0) | (third != end) {
-        let tally = tally::other(t);
-        return Listed { at: next, tally };
-    }
-    call_lines(s, next, t, width, height, colors, coverages, marks)
-}
-
-// Finds the slices of a frame, which are lent room, in the line from `at` to `end`. The next starts at `next`.
-fn list(
-    s: &[u8],
-    at: usize,
-    end: usize,
-    next: usize,
-    t: Tally,
-    colors: &mut [u8],
-    coverages: &mut [u8],
-    marks: &mut [u8],
-) -> Listed
-    ensures { λ r. ⌜ next ≤ r .at ⌝ }
-{
-    let width = text::word(s, text::behind(s, at, b"frame", 5));
-    let height = text::word(s, width.next);
-    let first = text::list(s, height.next, colors.len());
-    let a = first.count;
-    let second = text::list(s, text::past_string(s, first), coverages.len());
-    let b = second.count;
-    let third = text::list(s, text::past_string(s, second), marks.len());
-    let c = third.count;
-    list_filled(
-        s,
-        end,
-        next,
-        tally::recorded(t, height.next),
-        width.value,
-        height.value,
-        first.next,
-        second.next,
-        third.next,
-        &mut colors[..a],
-        &mut coverages[..b],
-        &mut marks[..c],
-    )
-}
-
-// Lends a list its room.
-fn list_line(s: &[u8], at: usize, end: usize, next: usize, t: Tally) -> Listed
+// Replays the list whose frame is in the line from `at` to `end`; or passes over one line that is no frame. The next starts at `next`.
+fn list(s: &[u8], at: usize, end: usize, next: usize, t: Tally) -> Listed
     ensures { λ r. ⌜ next ≤ r .at ⌝ }
 {
     let mut colors = [0u8; SLICE];
     let mut coverages = [0u8; SLICE];
     let mut marks = [0u8; SLICE];
-    list(s, at, end, next, t, &mut colors, &mut coverages, &mut marks)
+    let width = text::word(s, text::behind(s, at, b"frame", 5));
+    let height = text::word(s, width.next);
+    let recorded = height.next;
+    let first = text::string(s, recorded, &mut colors);
+    let second = text::string(s, first.next, &mut coverages);
+    let third = text::string(s, second.next, &mut marks);
+    if (first.next == 0) | (second.next == 0) | (third.next != end) {
+        let tally = tally::other(t);
+        return Listed { at: next, tally };
+    }
+    let a = first.count;
+    let b = second.count;
+    let c = third.count;
+    call_lines(
+        s,
+        next,
+        tally::recorded(t, recorded),
+        width.value,
+        height.value,
+        &mut colors[..a],
+        &mut coverages[..b],
+        &mut marks[..c],
+    )
 }
 
 // Tallies every line of a text.
@@ -225,7 +201,7 @@ fn replay(s: &[u8]) -> Tally {
         let end = line_end(s, at);
         let next = end + 1;
         let numbered = tally::next_line(tally);
-        let listed = list_line(s, at, end, next, numbered);
+        let listed = list(s, at, end, next, numbered);
         tally = listed.tally;
         at = listed.at;
     }

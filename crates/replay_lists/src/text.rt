@@ -8,6 +8,7 @@ use sheet::values::byte;
 use sheet::values::float;
 use sheet::values::index;
 ghost use Prim.Native.Nat.{_+_, _-_, _≤_};
+ghost use mathlib.Core.Path.{_≡_};
 ghost use lib.ListN.{length};
 
 // A number, and the position behind it.
@@ -16,9 +17,16 @@ pub struct Read {
     pub next: usize,
 }
 
-// How many elements a list has, and the position behind that.
+// How many elements a list has, and the position behind that, or behind the whole list.
 pub struct Length {
     pub count: usize,
+    pub next: usize,
+}
+
+// How many bytes a string has, whether they are just those that a slice had, and the position behind it.
+pub struct Slice {
+    pub count: usize,
+    pub same: bool,
     pub next: usize,
 }
 
@@ -95,63 +103,27 @@ pub fn list(s: &[u8], at: usize, limit: usize) -> Length
     Length { count: 0, next: 0 }
 }
 
-fn past(s: &[u8], at: usize, size: usize) -> usize {
-    if left(s, at) < size {
-        return 0;
-    }
-    if size == 0 {
-        return at;
-    }
-    at + size
-}
-
-// The position behind a list's words. No list has 1024: the product fits.
-pub fn past_words(s: &[u8], list: Length) -> usize {
-    let count = list.count;
-    if count < 1024 {
-        return past(s, list.next, 9 * count);
-    }
-    0
-}
-
-// The position behind a string: a space and two digits for each byte, or nothing at all.
-pub fn past_string(s: &[u8], list: Length) -> usize {
-    let count = list.count;
-    if count == 0 {
-        return list.next;
-    }
-    if count < 1024 {
-        return past(s, list.next, 1 + 2 * count);
-    }
-    0
-}
-
-pub fn words(s: &[u8], at: usize, to: &mut [u32]) -> usize {
-    let mut next = at;
+// Puts a list's words, as many as there is room for, into a slice as numbers and into another as the floats with these bits.
+pub fn words(s: &[u8], at: usize, numbers: &mut [u32], floats: &mut [f32]) -> Length
+    requires { ⌜ length (now numbers) ≡ length (now floats) ⌝ }
+    ensures { λ r. ⌜ r .count ≤ length (now (numbers .entry)) ⌝ }
+{
+    let length = list(s, at, numbers.len());
+    let count = length.count;
+    let mut next = length.next;
     let mut i = 0;
-    while i < to.len() {
+    while i < count {
         let read = word(s, next);
-        to[i] = read.value;
+        numbers[i] = read.value;
+        floats[i] = float(read.value);
         next = read.next;
         i += 1;
     }
-    next
-}
-
-pub fn floats(s: &[u8], at: usize, to: &mut [f32]) -> usize {
-    let mut next = at;
-    let mut i = 0;
-    while i < to.len() {
-        let read = word(s, next);
-        to[i] = float(read.value);
-        next = read.next;
-        i += 1;
-    }
-    next
+    Length { count, next }
 }
 
 // The position behind a space, which stands before the bytes of a string unless there are none.
-fn string(s: &[u8], at: usize, count: usize) -> usize {
+fn space(s: &[u8], at: usize, count: usize) -> usize {
     if count == 0 {
         return at;
     }
@@ -183,45 +155,22 @@ fn pair(s: &[u8], at: usize) -> Read {
     }
 }
 
-pub fn bytes(s: &[u8], at: usize, to: &mut [u8]) -> usize {
-    let mut next = string(s, at, to.len());
+// Puts the bytes of a string, as many as there is room for, into a slice, and says whether the slice has been just these.
+pub fn string(s: &[u8], at: usize, to: &mut [u8]) -> Slice
+    ensures { λ r. ⌜ r .count ≤ length (now (to .entry)) ⌝ }
+{
+    let length = list(s, at, to.len());
+    let count = length.count;
+    let mut next = space(s, length.next, count);
+    let mut same = count == to.len();
     let mut i = 0;
-    while i < to.len() {
+    while i < count {
         let read = pair(s, next);
-        to[i] = byte(read.value);
+        let found = byte(read.value);
+        same = same & (to[i] == found);
+        to[i] = found;
         next = read.next;
         i += 1;
     }
-    next
-}
-
-// The position behind a string of just these bytes.
-fn same_bytes(s: &[u8], at: usize, found: &[u8]) -> usize {
-    let mut next = string(s, at, found.len());
-    let mut i = 0;
-    while i < found.len() {
-        let read = pair(s, next);
-        if byte(read.value) != found[i] {
-            return 0;
-        }
-        next = read.next;
-        i += 1;
-    }
-    next
-}
-
-// The position behind a length and a string, if they are those of a slice.
-pub fn same_slice(s: &[u8], at: usize, found: &[u8]) -> usize {
-    let count = word(s, at);
-    if index(count.value) != found.len() {
-        return 0;
-    }
-    same_bytes(s, count.next, found)
-}
-
-// The position behind a frame's three slices, if the port's are the same.
-pub fn same_frame(s: &[u8], at: usize, colors: &[u8], coverages: &[u8], marks: &[u8]) -> usize {
-    let first = same_slice(s, at, colors);
-    let second = same_slice(s, first, coverages);
-    same_slice(s, second, marks)
+    Slice { count, same, next }
 }

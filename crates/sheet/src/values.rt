@@ -1,19 +1,10 @@
-// Values from a line's words: a struct's fields in the order of the interface, a number or a truth value in a word, a float by
-// its bits, an enum by its number. Whoever reads a value first asks `within` whether its words are in its type's range.
+// Values from a line's words, as the C interface takes them: a struct's fields in their order, a number or a truth value in a word,
+// a float by its bits, an enum by its number. Whoever reads a value first asks `within` whether its words are in its type's range.
 use crate::line::Words;
-use combiner::Combiner;
-use mode::AlphaCompare;
-use mode::BlendClass;
+use c_types::Mode;
+use c_types::Parts;
 use mode::CombinerUniform;
-use mode::RenderMode;
 use mode::Rgba;
-use mode::ZMode;
-use pack::ImageLayout;
-use pack::Rgba8;
-use pack::Writer;
-use selectors::AlphaIn;
-use selectors::ColorIn;
-use selectors::CycleSel;
 ghost use Prim.Native.Nat.{_+_, _≤_, _%_};
 ghost use mathlib.Core.Path.{_≡_};
 ghost use lib.Ieee.{binary32, ofBits};
@@ -59,73 +50,6 @@ pub fn truth(word: u32) -> bool {
     word != 0
 }
 
-pub fn color(number: u32) -> ColorIn {
-    match number {
-        0 => ColorIn::Combined,
-        1 => ColorIn::Texel0,
-        2 => ColorIn::Primitive,
-        3 => ColorIn::Shade,
-        4 => ColorIn::Environment,
-        5 => ColorIn::Zero,
-        6 => ColorIn::One,
-        7 => ColorIn::Texel1,
-        8 => ColorIn::KeyCenter,
-        9 => ColorIn::K4,
-        10 => ColorIn::KeyScale,
-        11 => ColorIn::CombinedAlpha,
-        12 => ColorIn::Texel0Alpha,
-        13 => ColorIn::Texel1Alpha,
-        14 => ColorIn::PrimitiveAlpha,
-        15 => ColorIn::ShadeAlpha,
-        16 => ColorIn::EnvAlpha,
-        17 => ColorIn::LodFraction,
-        18 => ColorIn::PrimLodFrac,
-        19 => ColorIn::K5,
-        _ => ColorIn::Noise,
-    }
-}
-
-pub fn alpha(number: u32) -> AlphaIn {
-    match number {
-        0 => AlphaIn::Combined,
-        1 => AlphaIn::Texel0,
-        2 => AlphaIn::Primitive,
-        3 => AlphaIn::Shade,
-        4 => AlphaIn::Environment,
-        5 => AlphaIn::Zero,
-        6 => AlphaIn::One,
-        7 => AlphaIn::Texel1,
-        8 => AlphaIn::LodFraction,
-        _ => AlphaIn::PrimLodFrac,
-    }
-}
-
-fn blend_class(number: u32) -> BlendClass {
-    match number {
-        0 => BlendClass::Replace,
-        1 => BlendClass::BlendColor,
-        2 => BlendClass::AlphaOver,
-        _ => BlendClass::DualSrc,
-    }
-}
-
-fn z_mode(number: u32) -> ZMode {
-    match number {
-        0 => ZMode::Opa,
-        1 => ZMode::Inter,
-        2 => ZMode::Xlu,
-        _ => ZMode::Decal,
-    }
-}
-
-fn alpha_compare(number: u32) -> AlphaCompare {
-    match number {
-        0 => AlphaCompare::None,
-        1 => AlphaCompare::Threshold,
-        _ => AlphaCompare::Dither,
-    }
-}
-
 pub fn rgba(w: &Words, at: usize) -> Rgba
     requires { ⌜ at + 4 ≤ 128 ⌝ }
 {
@@ -154,18 +78,8 @@ fn four(w: &Words, at: usize) -> [u32; 4]
     [w[at], w[at + 1], w[at + 2], w[at + 3]]
 }
 
-// A colour's bytes, red lowest.
-pub fn bytes(word: u32) -> Rgba8 {
-    Rgba8 {
-        r: byte(word),
-        g: byte(word >> 8),
-        b: byte(word >> 16),
-        a: byte(word >> 24),
-    }
-}
-
 // Word n of those from `at` on, or 0 past the last.
-fn word(w: &Words, at: usize, n: usize) -> u32 {
+pub fn word(w: &Words, at: usize, n: usize) -> u32 {
     if at < 128 {
         if n < 128 - at {
             return w[at + n];
@@ -191,19 +105,19 @@ pub fn mode_within(w: &Words, at: usize) -> bool
     mux & bytes & classes & compare & truths
 }
 
-pub fn render_mode(w: &Words, at: usize) -> RenderMode
+pub fn render_mode(w: &Words, at: usize) -> Mode
     requires { ⌜ at + 21 ≤ 128 ⌝ }
 {
-    RenderMode {
+    Mode {
         cycle_type: word(w, at, 0),
         blender_mux: (word(w, at, 1) % 65536) as u16,
         rgb_dither: byte(word(w, at, 2)),
         alpha_dither: byte(word(w, at, 3)),
         cvg_dst: byte(word(w, at, 4)),
-        blend_class: blend_class(word(w, at, 5)),
-        fallback_class: blend_class(word(w, at, 6)),
-        z_mode: z_mode(word(w, at, 7)),
-        alpha_compare: alpha_compare(word(w, at, 8)),
+        blend_class: byte(word(w, at, 5)),
+        fallback_class: byte(word(w, at, 6)),
+        z_mode: byte(word(w, at, 7)),
+        alpha_compare: byte(word(w, at, 8)),
         key_enabled: flag(w, at, 9),
         image_read: flag(w, at, 10),
         antialias: flag(w, at, 11),
@@ -258,26 +172,24 @@ pub fn combiner_within(w: &Words, at: usize) -> bool
     colors & alphas
 }
 
-fn cycle(w: &Words, at: usize) -> CycleSel
-    requires { ⌜ at + 8 ≤ 128 ⌝ }
-{
-    CycleSel {
-        ca: color(word(w, at, 0)),
-        cb: color(word(w, at, 1)),
-        cc: color(word(w, at, 2)),
-        cd: color(word(w, at, 3)),
-        aa: alpha(word(w, at, 4)),
-        ab: alpha(word(w, at, 5)),
-        ac: alpha(word(w, at, 6)),
-        ad: alpha(word(w, at, 7)),
-    }
+fn selectors(w: &Words, at: usize) -> [u8; 8] {
+    [
+        byte(word(w, at, 0)),
+        byte(word(w, at, 1)),
+        byte(word(w, at, 2)),
+        byte(word(w, at, 3)),
+        byte(word(w, at, 4)),
+        byte(word(w, at, 5)),
+        byte(word(w, at, 6)),
+        byte(word(w, at, 7)),
+    ]
 }
 
-pub fn combiner(w: &Words, at: usize) -> Combiner
+pub fn combiner(w: &Words, at: usize) -> Parts
     requires { ⌜ at + 25 ≤ 128 ⌝ }
 {
-    Combiner {
-        selectors: cycle(w, at),
+    Parts {
+        selectors: selectors(w, at),
         prim: rgba(w, at + 8),
         env: rgba(w, at + 12),
         blend: rgba(w, at + 16),
@@ -291,17 +203,4 @@ pub fn writer_within(w: &Words) -> bool {
     let bytes = within(w, 0, 2, 256);
     let depth = within(w, 3, 1, 2);
     bytes & depth
-}
-
-// A writer, from a call's first four words.
-pub fn writer(w: &Words) -> Writer {
-    let layout = ImageLayout {
-        fmt: byte(w[0]),
-        siz: byte(w[1]),
-        width: w[2],
-    };
-    Writer {
-        layout,
-        depth: truth(w[3]),
-    }
 }

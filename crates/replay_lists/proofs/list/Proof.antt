@@ -1,7 +1,7 @@
--- `replay_lists::list` meets its contract: no slice of a frame is longer than the room that it is lent. Assumes nothing.
+-- `replay_lists::list` meets its contract: no slice of a frame is longer than its room. Assumes nothing.
+use borrow.Author.Needs.{needs}
 use mathlib.Core.Path.{sym}
 use lib.Seq.{length-take-le}
-use borrow.Author.Needs.{needs}
 use Rattle.replay_lists.proofs.list.Statement.{statement}
 use Rattle.replay_lists.proofs.list.Tie as tie
 
@@ -14,59 +14,56 @@ word-requires c κs = search needs
 word-requires-2 : tie.Need-word-requires-2
 word-requires-2 c κs = search needs
 
-list-requires : tie.Need-list-requires
-list-requires c κs = search needs
+slice-aggregate-string : tie.Need-slice-aggregate-string
+slice-aggregate-string c = search needs
 
-past-string-requires : tie.Need-past-string-requires
-past-string-requires c κs = search needs
+string-requires : tie.Need-string-requires
+string-requires c κs = search needs
 
-list-requires-2 : tie.Need-list-requires-2
-list-requires-2 c κs = search needs
+slice-aggregate-string-2 : tie.Need-slice-aggregate-string-2
+slice-aggregate-string-2 c = search needs
 
-past-string-requires-2 : tie.Need-past-string-requires-2
-past-string-requires-2 c κs = search needs
+string-requires-2 : tie.Need-string-requires-2
+string-requires-2 c κs = search needs
 
-list-requires-3 : tie.Need-list-requires-3
-list-requires-3 c κs = search needs
+slice-aggregate-string-3 : tie.Need-slice-aggregate-string-3
+slice-aggregate-string-3 c = search needs
+
+string-requires-3 : tie.Need-string-requires-3
+string-requires-3 c κs = search needs
+
+other-requires : tie.Need-other-requires
+other-requires c κs = search needs
+
+returns : tie.Need-returns
+returns c = search needs
 
 recorded-requires : tie.Need-recorded-requires
 recorded-requires c κs = search needs
 
-slice-relend-prefix-list-filled : tie.Need-slice-relend-prefix-list-filled
-slice-relend-prefix-list-filled c = search needs
+array-borrow-prefix-colors : tie.Need-array-borrow-prefix-colors
+array-borrow-prefix-colors c = search needs
 
-slice-aggregate-list-filled : tie.Need-slice-aggregate-list-filled
-slice-aggregate-list-filled c =
-    sym (length-take-le _ (c .before .before .before .before .before .before .before .before .before .before .before .before .before .before .before .args .colors .now) (c .before .before .before .before .before .before .list .ensures))
+slice-aggregate-call-lines : tie.Need-slice-aggregate-call-lines
+slice-aggregate-call-lines c = sym (length-take-le _ _ (search needs))
 
-slice-relend-prefix-list-filled-2 : tie.Need-slice-relend-prefix-list-filled-2
-slice-relend-prefix-list-filled-2 c = search needs
+array-borrow-prefix-coverages : tie.Need-array-borrow-prefix-coverages
+array-borrow-prefix-coverages c = search needs
 
-slice-aggregate-list-filled-2 : tie.Need-slice-aggregate-list-filled-2
-slice-aggregate-list-filled-2 c =
-    sym (length-take-le _ (c .before .before .before .before .before .before .before .before .before .before .before .before .before .before .before .before .args .coverages .now) (c .before .before .before .before .before .list2 .ensures))
+slice-aggregate-call-lines-2 : tie.Need-slice-aggregate-call-lines-2
+slice-aggregate-call-lines-2 c = sym (length-take-le _ _ (search needs))
 
-slice-relend-prefix-list-filled-3 : tie.Need-slice-relend-prefix-list-filled-3
-slice-relend-prefix-list-filled-3 c = search needs
+array-borrow-prefix-marks : tie.Need-array-borrow-prefix-marks
+array-borrow-prefix-marks c = search needs
 
-slice-aggregate-list-filled-3 : tie.Need-slice-aggregate-list-filled-3
-slice-aggregate-list-filled-3 c =
-    sym (length-take-le _ (c .before .before .before .before .before .before .before .before .before .before .before .before .before .before .before .before .before .args .marks .now) (c .before .before .before .before .list3 .ensures))
+slice-aggregate-call-lines-3 : tie.Need-slice-aggregate-call-lines-3
+slice-aggregate-call-lines-3 c = sym (length-take-le _ _ (search needs))
 
-list-filled-requires : tie.Need-list-filled-requires
-list-filled-requires c κs = search needs
+call-lines-requires : tie.Need-call-lines-requires
+call-lines-requires c κs = search needs
 
-same-length : tie.Need-same-length
-same-length c = search needs
-
-same-length-2 : tie.Need-same-length-2
-same-length-2 c = search needs
-
-same-length-3 : tie.Need-same-length-3
-same-length-3 c = search needs
-
-returns : tie.Need-returns
-returns c = search needs
+returns-2 : tie.Need-returns-2
+returns-2 c = search needs
 
 pub list-spec : {M : Type 1} → statement M
 list-spec =
@@ -75,20 +72,20 @@ list-spec =
     behind-requires
     word-requires
     word-requires-2
-    list-requires
-    past-string-requires
-    list-requires-2
-    past-string-requires-2
-    list-requires-3
+    slice-aggregate-string
+    string-requires
+    slice-aggregate-string-2
+    string-requires-2
+    slice-aggregate-string-3
+    string-requires-3
+    other-requires
+    returns
     recorded-requires
-    slice-relend-prefix-list-filled
-    slice-aggregate-list-filled
-    slice-relend-prefix-list-filled-2
-    slice-aggregate-list-filled-2
-    slice-relend-prefix-list-filled-3
-    slice-aggregate-list-filled-3
-    list-filled-requires
-    same-length
-    same-length-2
-    same-length-3
-    returns)
+    array-borrow-prefix-colors
+    slice-aggregate-call-lines
+    array-borrow-prefix-coverages
+    slice-aggregate-call-lines-2
+    array-borrow-prefix-marks
+    slice-aggregate-call-lines-3
+    call-lines-requires
+    returns-2)

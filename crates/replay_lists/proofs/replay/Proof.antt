@@ -26,8 +26,8 @@ add-next c = search needs
 next-line-requires : tie.Need-next-line-requires Inv-loop μ-loop
 next-line-requires c κs = search needs
 
-list-line-requires : tie.Need-list-line-requires Inv-loop μ-loop
-list-line-requires c κs = search needs
+list-requires : tie.Need-list-requires Inv-loop μ-loop
+list-requires c κs = search needs
 
 loop-less : tie.Need-loop-less Inv-loop μ-loop
 loop-less c = search needs
@@ -49,7 +49,7 @@ replay-spec =
     line-end-requires
     add-next
     next-line-requires
-    list-line-requires
+    list-requires
     loop-less
     loop-again
     returns)

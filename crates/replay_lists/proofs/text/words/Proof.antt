@@ -1,4 +1,4 @@
--- `replay_lists::text::words` is safe and ends. The measure is the words that are left; a store leaves the length. Assumes nothing.
+-- `replay_lists::text::words` is safe and ends, and no list is longer than the slices. The measure is the words that are left; a store leaves the lengths. Assumes nothing.
 use mathlib.Core.Path.{_≡_}
 use Prim.Native.Nat.{_≤_, _-_}
 use lib.ListN.{length}
@@ -7,10 +7,13 @@ use Rattle.replay_lists.proofs.text.words.Statement.{statement}
 use Rattle.replay_lists.proofs.text.words.Tie as tie
 
 abbrev Inv-loop : tie.InvT-loop
-Inv-loop s at to₀ next₀ i₀ to next i = (i ≤ length to₀) × (length to ≡ length to₀)
+Inv-loop s at numbers₀ floats₀ count next₀ i₀ numbers floats next i = (i ≤ count) × (length numbers ≡ length numbers₀) × (length floats ≡ length floats₀)
 
 abbrev μ-loop : tie.MeasureT-loop
-μ-loop s at to₀ next₀ i₀ to next i = length to₀ - i
+μ-loop s at numbers₀ floats₀ count next₀ i₀ numbers floats next i = count - i
+
+list-requires : tie.Need-list-requires Inv-loop μ-loop
+list-requires c κs = search needs
 
 loop-holds : tie.Need-loop-holds Inv-loop μ-loop
 loop-holds c = search needs
@@ -18,11 +21,20 @@ loop-holds c = search needs
 word-requires : tie.Need-word-requires Inv-loop μ-loop
 word-requires c κs = search needs
 
-mul-to : tie.Need-mul-to Inv-loop μ-loop
-mul-to c = search needs
+mul-numbers : tie.Need-mul-numbers Inv-loop μ-loop
+mul-numbers c = search needs
 
-slice-write-to : tie.Need-slice-write-to Inv-loop μ-loop
-slice-write-to c = search needs
+slice-write-numbers : tie.Need-slice-write-numbers Inv-loop μ-loop
+slice-write-numbers c = search needs
+
+float-requires : tie.Need-float-requires Inv-loop μ-loop
+float-requires c κs = search needs
+
+mul-floats : tie.Need-mul-floats Inv-loop μ-loop
+mul-floats c = search needs
+
+slice-write-floats : tie.Need-slice-write-floats Inv-loop μ-loop
+slice-write-floats c = search needs
 
 add-i : tie.Need-add-i Inv-loop μ-loop
 add-i c = search needs
@@ -36,6 +48,9 @@ loop-again c = search needs
 same-length : tie.Need-same-length Inv-loop μ-loop
 same-length c = search needs
 
+same-length-2 : tie.Need-same-length-2 Inv-loop μ-loop
+same-length-2 c = search needs
+
 returns : tie.Need-returns Inv-loop μ-loop
 returns c = search needs
 
@@ -45,12 +60,17 @@ words-spec =
     (tie.spec
     Inv-loop
     μ-loop
+    list-requires
     loop-holds
     word-requires
-    mul-to
-    slice-write-to
+    mul-numbers
+    slice-write-numbers
+    float-requires
+    mul-floats
+    slice-write-floats
     add-i
     loop-less
     loop-again
     same-length
+    same-length-2
     returns)

@@ -1,19 +1,22 @@
--- `replay_lists::text::bytes` is safe and ends. The measure is the bytes that are left; a store leaves the length. Assumes nothing.
+-- `replay_lists::text::string` is safe and ends, and no string is longer than the slice. The measure is the bytes that are left; a store leaves the length. Assumes nothing.
 use mathlib.Core.Path.{_≡_}
 use Prim.Native.Nat.{_≤_, _-_}
 use lib.ListN.{length}
 use borrow.Author.Needs.{needs}
-use Rattle.replay_lists.proofs.text.bytes.Statement.{statement}
-use Rattle.replay_lists.proofs.text.bytes.Tie as tie
+use Rattle.replay_lists.proofs.text.string.Statement.{statement}
+use Rattle.replay_lists.proofs.text.string.Tie as tie
 
 abbrev Inv-loop : tie.InvT-loop
-Inv-loop s at to₀ next₀ i₀ to next i = (i ≤ length to₀) × (length to ≡ length to₀)
+Inv-loop s at to₀ count next₀ same₀ i₀ to next same i = (i ≤ count) × (length to ≡ length to₀)
 
 abbrev μ-loop : tie.MeasureT-loop
-μ-loop s at to₀ next₀ i₀ to next i = length to₀ - i
+μ-loop s at to₀ count next₀ same₀ i₀ to next same i = count - i
 
-string-requires : tie.Need-string-requires Inv-loop μ-loop
-string-requires c κs = search needs
+list-requires : tie.Need-list-requires Inv-loop μ-loop
+list-requires c κs = search needs
+
+space-requires : tie.Need-space-requires Inv-loop μ-loop
+space-requires c κs = search needs
 
 loop-holds : tie.Need-loop-holds Inv-loop μ-loop
 loop-holds c = search needs
@@ -23,6 +26,9 @@ pair-requires c κs = search needs
 
 byte-requires : tie.Need-byte-requires Inv-loop μ-loop
 byte-requires c κs = search needs
+
+slice-read-same : tie.Need-slice-read-same Inv-loop μ-loop
+slice-read-same c = search needs
 
 slice-write-to : tie.Need-slice-write-to Inv-loop μ-loop
 slice-write-to c = search needs
@@ -42,16 +48,18 @@ same-length c = search needs
 returns : tie.Need-returns Inv-loop μ-loop
 returns c = search needs
 
-pub bytes-spec : {M : Type 1} → statement M
-bytes-spec =
+pub string-spec : {M : Type 1} → statement M
+string-spec =
     tie.close
     (tie.spec
     Inv-loop
     μ-loop
-    string-requires
+    list-requires
+    space-requires
     loop-holds
     pair-requires
     byte-requires
+    slice-read-same
     slice-write-to
     add-i
     loop-less
