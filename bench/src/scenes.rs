@@ -168,6 +168,13 @@ fn triangles(frame: &Frame, mode: Mode, uniform: Uniform, sizes: &[f32], count: 
     Draw { mode, uniform, shape }
 }
 
+/// A list as long as number 5 lets through: 1,365 triangles of 1 to 4 pixels, each three times.
+fn tiny_triangles(frame: &Frame, uniform: Uniform) -> Draw {
+    let mut draw = triangles(frame, opaque(), uniform, &[1.0, 2.0, 3.0, 4.0], 1365, 1.0, 51);
+    draw.shape.indices = draw.shape.indices.repeat(3);
+    draw
+}
+
 fn rectangle(frame: &Frame, mode: Mode, uniform: Uniform, [left, top, right, bottom]: [f32; 4]) -> Draw {
     let shape =
         Shape { scissor: full(frame), geometry: Geometry { kind: 2, left, top, right, bottom }, ..Shape::default() };
@@ -189,6 +196,12 @@ pub fn all() -> Vec<Scene> {
     let sides = [0.5, 0.25, 1020.0, 1019.5];
     let small =
         |mode, uniform| (0..400).map(|i| triangles(&large, mode, uniform, &[10.0], 2, 1.0, 7 + i)).collect::<Vec<_>>();
+    let tiny = |name, frame: &Frame, uniform| Scene {
+        name,
+        draws: vec![tiny_triangles(frame, uniform); 4],
+        frame: frame.clone(),
+        reads: Reads::Nothing,
+    };
     let words = |name, reads| Scene { name, draws: vec![], frame: large.clone(), reads };
     vec![
         Scene {
@@ -239,6 +252,10 @@ pub fn all() -> Vec<Scene> {
             frame: striped(&large),
             reads: Reads::Nothing,
         },
+        tiny("tiny shaded triangles", &page, shaded),
+        tiny("tiny flat triangles", &page, flat),
+        tiny("tiny shaded triangles, 1024 x 1024", &large, shaded),
+        tiny("tiny flat triangles, 1024 x 1024", &large, flat),
         words("every word, a run; Rust: 400 single reads", Reads::Singly { rgb_dither: 0 }),
         words("every word, a run; Rust: numbers 1 to 3 once", Reads::Once { rgb_dither: 0 }),
         words("every word undithered, a run; Rust: numbers 1 to 3 once", Reads::Once { rgb_dither: 3 }),

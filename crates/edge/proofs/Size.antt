@@ -1,9 +1,10 @@
 -- How large a signed number can be: bounds on `natAbs`, which `omega` reads. Assumes nothing.
 use Prim.Native.Nat.{ℕ, zero, suc, _+_, _*_, _/_, _-_, _^_, _≤_, _<_}
-use mathlib.Core.Path.{_≡_, refl}
+use mathlib.Core.Path.{_≡_, refl, ap}
 use mathlib.Core.Bool.{Bool, true, false, not, cond}
 use native.Mathlib.Nat.{le-trans, mod-lt, div-le-self, div-mul-le-self, add-mul}
 use native.Mathlib.Omega.{arith}
+use borrow.Author.Tests.{le-ltb}
 use lib.Dec.{T, ltb, ltb→lt}
 use lib.IntN.{ℤ, pos, negsuc, negℤ, _+ℤ_, _-ℤ_, _*ℤ_, natAbs, subℕ}
 use lib.Signed.{shrZ, quotZ}
@@ -14,6 +15,9 @@ use Rattle.edge.specs.Edge.{floorTo, modZ, ceilDiv, awayDiv, atLeastOne}
 pub small-fits : (z : ℤ) → natAbs z < 2 ^ 63 → SFits w64 z
 small-fits (pos n) h = record { sfits = h }
 small-fits (negsuc n) h = record { sfits = omega arith }
+
+pub less-one : (n : ℕ) → pos (suc n) -ℤ pos 1 ≡ pos n
+less-one n = rw (le-ltb (suc n) 1 (omega arith)) (ap pos (omega arith))
 
 pub size-neg : (z : ℤ) → natAbs (negℤ z) ≡ natAbs z
 size-neg (pos zero) = refl

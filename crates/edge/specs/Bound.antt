@@ -3,8 +3,8 @@ use Prim.Native.Nat.{ℕ, _+_, _/_, min, max}
 use mathlib.Core.Bool.{Bool, true, false}
 use mathlib.Core.List.{List}
 use lib.ListN.{getD}
-use lib.IntN.{ℤ, pos, negsuc}
-use lib.Signed.{leZ}
+use lib.IntN.{ℤ, pos, negsuc, _-ℤ_}
+use lib.Signed.{ltZ, leZ}
 use Rattle.range.specs.declared.Range.{Range}
 
 -- the smaller of two, or the larger
@@ -17,9 +17,20 @@ pickZ false false a b = a
 abbrev pub outerOf : Bool → ℤ → ℤ → ℤ
 outerOf low a b = pickZ (leZ a b) low a b
 
--- of four
-unfoldable pub outermostOf : Bool → List ℤ → ℤ
-outermostOf low e = outerOf low (outerOf low (getD e 0 (pos 0)) (getD e 1 (pos 0))) (outerOf low (getD e 2 (pos 0)) (getD e 3 (pos 0)))
+-- the first eighth that a line from l up to r covers, or the last. A line that covers none is put past pixel 1,023, or before pixel 0
+abbrev pub tipBy : Bool → Bool → ℤ → ℤ → ℤ
+tipBy true true l r = l
+tipBy true false l r = r -ℤ pos 1
+tipBy false true l r = pos 8192
+tipBy false false l r = negsuc 0
+
+-- line s of four
+abbrev pub tipOf : Bool → List ℤ → List ℤ → ℕ → ℤ
+tipOf low l r s = tipBy (ltZ (getD l s (pos 0)) (getD r s (pos 0))) low (getD l s (pos 0)) (getD r s (pos 0))
+
+-- all four
+unfoldable pub outermostOf : Bool → List ℤ → List ℤ → ℤ
+outermostOf low l r = outerOf low (outerOf low (tipOf low l r 0) (tipOf low l r 1)) (outerOf low (tipOf low l r 2) (tipOf low l r 3))
 
 -- z within lo to hi
 abbrev pub clampOf : ℤ → ℕ → ℕ → ℕ

@@ -7,7 +7,7 @@ ghost use Rattle.edge.specs.Limits.{Tame};
 ghost use Rattle.edge.specs.Edge.{quantized, awayDiv, atLeastOne, edgeAt, crossOf};
 ghost use Rattle.edge.specs.Span.{spanOf};
 ghost use Rattle.edge.specs.Lines.{fourOf};
-ghost use Rattle.edge.specs.Bound.{outerOf, outermostOf, clampOf, rangeOf, edgeOfRows, fullFrom, fullTo};
+ghost use Rattle.edge.specs.Bound.{outerOf, tipOf, outermostOf, clampOf, rangeOf, edgeOfRows, fullFrom, fullTo};
 use range::Range;
 
 // An edge: its x on quarter line `base`, in 2^-16 of a pixel, and its step for each whole line in 2^-16 of a pixel.
@@ -110,11 +110,34 @@ fn outer(a: i64, b: i64, low: bool) -> i64
     a
 }
 
-// The smallest of four if `low`, else the largest.
-pub fn outermost(e: [i64; 4], low: bool) -> i64
-    ensures { λ r. ⌜ r ≡ outermostOf low e ⌝ }
+// The first eighth that line s of four covers if `low`, else the last. A line that covers none bounds nothing: it is put past pixel 1023, or before pixel 0.
+fn tip(l: [i64; 4], r: [i64; 4], s: usize, low: bool) -> i64
+    requires { ⌜ s < 4 ⌝ }
+    ensures { λ z. ⌜ z ≡ tipOf low l r s ⌝ }
 {
-    outer(outer(e[0], e[1], low), outer(e[2], e[3], low), low)
+    let a = l[s];
+    let b = r[s];
+    if a < b {
+        if low {
+            return a;
+        }
+        return b - 1;
+    }
+    if low {
+        return 8192;
+    }
+    -1
+}
+
+// The first eighth that four lines cover if `low`, else the last.
+pub fn outermost(l: [i64; 4], r: [i64; 4], low: bool) -> i64
+    ensures { λ z. ⌜ z ≡ outermostOf low l r ⌝ }
+{
+    let a = tip(l, r, 0, low);
+    let b = tip(l, r, 1, low);
+    let c = tip(l, r, 2, low);
+    let d = tip(l, r, 3, low);
+    outer(outer(a, b, low), outer(c, d, low), low)
 }
 
 // z within lo..=hi.

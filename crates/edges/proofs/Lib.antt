@@ -3,5 +3,6 @@ pub mod Size
 pub mod Tame
 pub mod Ones
 pub mod Outside
+pub mod Fits
 pub mod Inside
 pub mod Lines

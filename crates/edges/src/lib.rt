@@ -8,7 +8,7 @@ ghost use Rattle.edges.specs.Edge.{slopeOf, areaOf, edgeStart, edgeFrom}
 ghost use Rattle.edges.specs.Span.{triOf, lineOf, edgesOf};
 ghost use Rattle.edges.specs.Lines.{rowOf};
 ghost use Rattle.edges.specs.Sample.{bitOf, inside, pairOf, maskOf, countOf};
-ghost use Rattle.edges.specs.Bound.{noSample, allSamples, noRow};
+ghost use Rattle.edges.specs.Bound.{noSample, Between, allSamples, noRow};
 ghost use Rattle.range.specs.Kept.{Kept};
 ghost use Rattle.range.specs.Inner.{Inner};
 use edge::Edge;
@@ -238,16 +238,17 @@ pub fn count(mask: u8) -> u8
     u8::count_ones(mask) as u8
 }
 
-// The part of the pixels x0..x1 between the outermost edges: no sample lies outside.
+// The part of the pixels x0..x1 between the outermost edges: no sample lies outside. A line that covers nothing, as above the top corner, does not count.
 pub fn bounds(e: Edges, x0: u32, x1: u32) -> Range
-    requires { ⌜ x0 ≤ x1 ⌝ }
-    ensures { λ r. ⌜ Kept (noSample e) x0 x1 r ⌝ }
+    requires { ⌜ (x0 ≤ x1) × (x1 ≤ 1024) ⌝ }
+    ensures kept { λ r. ⌜ Kept (noSample e) x0 x1 r ⌝ }
+    ensures fits { λ r. ⌜ Inner (Between e) x0 x1 r ⌝ }
 {
     let left = e.left;
     let right = e.right;
-    let l = edge::outermost(left, true);
-    let r = edge::outermost(right, false);
-    edge::within(l >> 3, (r >> 3) + 1, x0, x1)
+    let first = edge::outermost(left, right, true);
+    let last = edge::outermost(left, right, false);
+    edge::within(first >> 3, (last >> 3) + 1, x0, x1)
 }
 
 // The part of the rows y0..y1 that the triangle's quarter lines can touch: no sample lies outside.

@@ -1,27 +1,25 @@
--- `edge::outermost` meets its contract, by that of `outer` three times. Assumes nothing.
+-- `edge::outermost` meets its contract, by those of `tip` and `outer`. Assumes nothing.
 use mathlib.Core.Path.{_∙_}
-use lib.ListN.{getD}
-use lib.IntN.{pos}
+use borrow.Author.Needs.{needs}
 use Rattle.edge.specs.Bound.{outerOf, outermostOf}
 use Rattle.edge.proofs.Held.{back}
-use borrow.Author.Needs.{needs}
 use Rattle.edge.proofs.outermost.Statement.{statement}
 use Rattle.edge.proofs.outermost.Tie as tie
 
-array-copy-out-outer : tie.Need-array-copy-out-outer
-array-copy-out-outer c = search needs
+tip-requires : tie.Need-tip-requires
+tip-requires c κs = search needs
 
-array-copy-out-outer-2 : tie.Need-array-copy-out-outer-2
-array-copy-out-outer-2 c = search needs
+tip-requires-2 : tie.Need-tip-requires-2
+tip-requires-2 c κs = search needs
+
+tip-requires-3 : tie.Need-tip-requires-3
+tip-requires-3 c κs = search needs
+
+tip-requires-4 : tie.Need-tip-requires-4
+tip-requires-4 c κs = search needs
 
 outer-requires : tie.Need-outer-requires
 outer-requires c κs = search needs
-
-array-copy-out-outer-3 : tie.Need-array-copy-out-outer-3
-array-copy-out-outer-3 c = search needs
-
-array-copy-out-outer-4 : tie.Need-array-copy-out-outer-4
-array-copy-out-outer-4 c = search needs
 
 outer-requires-2 : tie.Need-outer-requires-2
 outer-requires-2 c κs = search needs
@@ -32,24 +30,27 @@ outer-requires-3 c κs = search needs
 returns : tie.Need-returns
 unfolding outermostOf
 returns c =
-    let d = c .before .before .before .before in
-    let e = d .before .before .before .args .t1 in
-    let low = d .before .before .before .args .low in
-    let p = back (d .outer .result) (d .outer .ok) ∙ d .outer .ensures
-    ∙ (λ i. outerOf low (back (getD e 0 (pos 0)) (d .before .before .outer-arg .given) i) (back (getD e 1 (pos 0)) (d .before .outer-arg2 .given) i)) in
-    let q = back (c .before .outer2 .result) (c .before .outer2 .ok) ∙ c .before .outer2 .ensures
-    ∙ (λ i. outerOf low (back (getD e 2 (pos 0)) (c .before .before .before .outer-arg3 .given) i) (back (getD e 3 (pos 0)) (c .before .before .outer-arg4 .given) i)) in
-    back (c .outer3 .result) (c .outer3 .ok) ∙ c .outer3 .ensures ∙ (λ i. outerOf low (p i) (q i))
+    let q = c .before in
+    let p = q .before in
+    let d = p .before in
+    let low = d .before .before .before .before .args .low in
+    let ta = back (d .before .before .before .tip .result) (d .before .before .before .tip .ok) ∙ d .before .before .before .tip .ensures in
+    let tb = back (d .before .before .tip2 .result) (d .before .before .tip2 .ok) ∙ d .before .before .tip2 .ensures in
+    let tc = back (d .before .tip3 .result) (d .before .tip3 .ok) ∙ d .before .tip3 .ensures in
+    let td = back (d .tip4 .result) (d .tip4 .ok) ∙ d .tip4 .ensures in
+    let ab = back (p .outer .result) (p .outer .ok) ∙ p .outer .ensures ∙ (λ i. outerOf low (ta i) (tb i)) in
+    let cd = back (q .outer2 .result) (q .outer2 .ok) ∙ q .outer2 .ensures ∙ (λ i. outerOf low (tc i) (td i)) in
+    back (c .outer3 .result) (c .outer3 .ok) ∙ c .outer3 .ensures ∙ (λ i. outerOf low (ab i) (cd i))
 
 pub outermost-spec : {M : Type 1} → statement M
 outermost-spec =
     tie.close
     (tie.spec
-    array-copy-out-outer
-    array-copy-out-outer-2
+    tip-requires
+    tip-requires-2
+    tip-requires-3
+    tip-requires-4
     outer-requires
-    array-copy-out-outer-3
-    array-copy-out-outer-4
     outer-requires-2
     outer-requires-3
     returns)

@@ -1,13 +1,15 @@
--- `edges::bounds` meets its contract: what lies outside the outermost edges has no sample. Assumes nothing.
+-- `edges::bounds` meets its contract: what lies outside the outermost edges has no sample, and only lines that cover something count. Assumes nothing.
 use mathlib.Core.Path.{ap, _∙_, subst⁻¹}
 use lib.IntN.{ℤ, pos, _+ℤ_}
 use lib.Signed.{shrZ}
 use borrow.Author.Needs.{needs}
 use Rattle.range.specs.Kept.{Kept}
+use Rattle.range.specs.Inner.{Inner}
 use Rattle.edge.specs.Bound.{rangeOf}
-use Rattle.edges.specs.Bound.{noSample}
+use Rattle.edges.specs.Bound.{noSample, Between}
 use Rattle.edge.proofs.Held.{got, lit, add, fit-plus, part}
 use Rattle.edges.proofs.Outside.{kept-pixels}
+use Rattle.edges.proofs.Fits.{between-pixels}
 use Rattle.edges.proofs.bounds.Statement.{statement}
 use Rattle.edges.proofs.bounds.Tie as tie
 
@@ -26,11 +28,14 @@ within-requires c κs = search needs
 returns : tie.Need-returns
 returns c =
     let d = c .before in
-    let a = d .before .before .before .before .args in
-    let l = part (got (d .before .outermost .result) (d .before .outermost .ok)) 8 tt .read ∙ ap (λ (z : ℤ). shrZ z 8) (d .before .outermost .ensures) in
-    let r = add (part (got (d .outermost2 .result) (d .outermost2 .ok)) 8 tt) (lit 1 tt) tt .read ∙ ap (λ (z : ℤ). shrZ z 8 +ℤ pos 1) (d .outermost2 .ensures) in
-    subst⁻¹ (Kept (noSample (a .e)) (a .x0) (a .x1)) (c .within .ensures ∙ (λ i. rangeOf (l i) (r i) (a .x0) (a .x1)))
-    (kept-pixels (a .e) (a .x0) (a .x1) (d .before .before .before .before .pre))
+    let s = d .before .before .before .before in
+    let a = s .args in
+    let f = part (got (d .before .outermost .result) (d .before .outermost .ok)) 8 tt .read ∙ ap (λ (z : ℤ). shrZ z 8) (d .before .outermost .ensures) in
+    let l = add (part (got (d .outermost2 .result) (d .outermost2 .ok)) 8 tt) (lit 1 tt) tt .read ∙ ap (λ (z : ℤ). shrZ z 8 +ℤ pos 1) (d .outermost2 .ensures) in
+    let e = c .within .ensures ∙ (λ i. rangeOf (f i) (l i) (a .x0) (a .x1)) in (
+      subst⁻¹ (Kept (noSample (a .e)) (a .x0) (a .x1)) e (kept-pixels (a .e) (a .x0) (a .x1) (s .pre .0)),
+      subst⁻¹ (Inner (Between (a .e)) (a .x0) (a .x1)) e (between-pixels (a .e) (a .x0) (a .x1) (s .pre .0) (s .pre .1)),
+    )
 
 pub bounds-spec : {M : Type 1} → statement M
 bounds-spec =

@@ -23,7 +23,7 @@ flat-row-requires : tie.Need-flat-row-requires
 flat-row-requires c κs =
     let s = c .before .before .before .before .before .before .before .before .before .before in
     let i = s .pre .0 .2 .inked in
-    ((omega (arith, c .before .before .before .before .before .bounds .ensures .to, s .pre .0 .1), even-triangle (s .args .pen) i (c .before .before .before .if1 .taken)), (c .before .before .before .before .full .ensures, s .pre .1 .1))
+    ((omega (arith, c .before .before .before .before .before .bounds .ensures .0 .to, s .pre .0 .1), even-triangle (s .args .pen) i (c .before .before .before .if1 .taken)), (c .before .before .before .before .full .ensures, s .pre .1 .1))
 
 same-length : tie.Need-same-length
 same-length c = search needs
@@ -38,7 +38,7 @@ returns : tie.Need-returns
 returns c =
     let s = c .before .before .before .before .before .before .before .before .before .before .before .before .before .before .before .before .before in
     let a = s .args in
-    row-drawn _ _ _ _ _ _ _ _ (c .before .before .before .before .before .before .before .before .before .before .before .before .before .edges-at .ensures) (c .before .before .before .before .before .before .before .before .before .before .before .before .bounds .ensures)
+    row-drawn _ _ _ _ _ _ _ _ (c .before .before .before .before .before .before .before .before .before .before .before .before .before .edges-at .ensures) (c .before .before .before .before .before .before .before .before .before .before .before .before .bounds .ensures .0)
     (drew-as (flat-row (a .pen) (s .pre .0 .2 .inked) (a .v) _ _ _ _ _ (c .before .before .before .before .before .before .before .before .before .before .if1 .taken)) (c .before .before .before .before .before .before .flat-row .ensures (λ (x : ℕ). shadeOf (a .v) x (a .y) .a)))
 
 shade-row-requires : tie.Need-shade-row-requires
@@ -47,7 +47,7 @@ shade-row-requires c κs = search needs
 draw-span-requires : tie.Need-draw-span-requires
 draw-span-requires c κs =
     let s = c .before .before .before .before .before .before .before .before .before .before .before in
-    ((omega (arith, c .before .before .before .before .before .before .bounds .ensures .to, s .pre .0 .1), c .before .before .before .before .before .full .ensures .all, s .pre .0 .2 .inked), s .pre .1 .1)
+    ((omega (arith, c .before .before .before .before .before .before .bounds .ensures .0 .to, s .pre .0 .1), c .before .before .before .before .before .full .ensures .all, s .pre .0 .2 .inked), s .pre .1 .1)
 
 same-length-4 : tie.Need-same-length-4
 same-length-4 c = search needs
@@ -62,7 +62,7 @@ returns-2 : tie.Need-returns-2
 returns-2 c =
     let s = c .before .before .before .before .before .before .before .before .before .before .before .before .before .before .before .before .before .before in
     let a = s .args in
-    row-drawn _ _ _ _ _ _ _ _ (c .before .before .before .before .before .before .before .before .before .before .before .before .before .before .edges-at .ensures) (c .before .before .before .before .before .before .before .before .before .before .before .before .before .bounds .ensures)
+    row-drawn _ _ _ _ _ _ _ _ (c .before .before .before .before .before .before .before .before .before .before .before .before .before .before .edges-at .ensures) (c .before .before .before .before .before .before .before .before .before .before .before .before .before .bounds .ensures .0)
     (drew-as (shaded-row (a .pen) (s .pre .0 .2 .inked) (a .v) _ _ _ _ _ (s .pre .0 .2 .mixes) (c .before .before .before .before .before .before .before .before .before .before .shade-row .ensures)) (c .before .before .before .before .before .before .draw-span .ensures))
 
 pub draw-row-spec : {M : Type 1} → statement M
