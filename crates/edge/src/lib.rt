@@ -141,7 +141,7 @@ pub fn outermost(l: [i64; 4], r: [i64; 4], low: bool) -> i64
 }
 
 // z within lo..=hi.
-fn clamp(z: i64, lo: u32, hi: u32) -> u32
+pub fn clamp(z: i64, lo: u32, hi: u32) -> u32
     requires { ⌜ lo ≤ hi ⌝ }
     ensures { λ r. ⌜ r ≡ clampOf z lo hi ⌝ }
 {

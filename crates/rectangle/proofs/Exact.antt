@@ -102,7 +102,7 @@ module _ (m : ℕ) (e : ℤ) (n : ℕ) (v : m * up e * 4 ≡ n * down e) (k : �
   zero-eq : eqb (k * up d * down e) 0 ≡ eqb (k * up d * 4) 0
   zero-eq = same _ _ _ _ 4 (down e) (lit< tt) (down-pos e) other none
 
-lt-at : (z high : Float) (n : ℕ) → Quarters z n → lt z high ≡ lt (quarters n) high
+pub lt-at : (z high : Float) (n : ℕ) → Quarters z n → lt z high ≡ lt (quarters n) high
 unfolding lt
 lt-at nan high n v = absurd v
 lt-at (inf s) high n v = absurd v
@@ -131,12 +131,12 @@ within-at low high z n v = λ i. le-at low z n v i && lt-at z high n v i
 abbrev roundedAt : ℕ → ℕ → Float
 roundedAt n q = add binary32 (ofInt binary32 (pos n)) (mul binary32 (ofInt binary32 (pos q)) (fin false 1 (negsuc 1)))
 
-quarter-is : (n : ℕ) → n < 1024 → Quarters (mul binary32 (ofInt binary32 (pos n)) (fin false 1 (negsuc 1))) n
+pub quarter-is : (n : ℕ) → n < 4096 → Quarters (mul binary32 (ofInt binary32 (pos n)) (fin false 1 (negsuc 1))) n
 quarter-is n h = part-is 1 (ofInt binary32 (pos n)) (n * 4) n (whole-is n (omega arith)) refl (omega arith)
 
 sum-at : (n q : ℕ) → n < 1024 → q < 1024 → Quarters (roundedAt n q) (n * 4 + q)
 sum-at n q h l =
-    sum-is (ofInt binary32 (pos n)) (mul binary32 (ofInt binary32 (pos q)) (fin false 1 (negsuc 1))) (n * 4) q (whole-is n (omega arith)) (quarter-is q l) (omega arith)
+    sum-is (ofInt binary32 (pos n)) (mul binary32 (ofInt binary32 (pos q)) (fin false 1 (negsuc 1))) (n * 4) q (whole-is n (omega arith)) (quarter-is q (omega arith)) (omega arith)
 
 -- The code's test of a quarter is that of the place where it lies.
 pub quarter-at : (low high : Float) (n q : ℕ) → n < 1024 → q < 4 → withinOf low high (roundedAt n q) ≡ withinOf low high (quarters (n * 4 + q))

@@ -24,18 +24,18 @@ le-of a b true t p q e = omega (arith, ltb-true a b p)
 le-of a b false true p q e = omega (arith, eqb-true a b q)
 le-of a b false false p q e = absurd (let z : _≡_ {A = ℕ} 0 1 = cc in omega arith)
 
-of-le : (a b : ℕ) (s : Bool) → ltb a b ≡ s → a ≤ b → s || (eqb a b && true) ≡ true
+pub of-le : (a b : ℕ) (s : Bool) → ltb a b ≡ s → a ≤ b → s || (eqb a b && true) ≡ true
 of-le a b true p h = refl
 of-le a b false p h = λ i. eq-eqb a b (omega (arith, ltb-false a b p)) i && true
 
 -- a number that is not positive is at most one that is not negative
-neg-le : (a b : ℕ) (s : Bool) → ltb 0 (a + b) ≡ s → s || (eqb a b && eqb a 0) ≡ true
+pub neg-le : (a b : ℕ) (s : Bool) → ltb 0 (a + b) ≡ s → s || (eqb a b && eqb a 0) ≡ true
 neg-le a b true p = refl
 neg-le a b false p =
     let z = ltb-false 0 (a + b) p in
     λ i. eq-eqb a b (omega arith) i && eq-eqb a 0 (omega arith) i
 
-times : (m n d : ℕ) → m ≤ n → m * 1 * d ≤ n * 1 * d
+pub times : (m n d : ℕ) → m ≤ n → m * 1 * d ≤ n * 1 * d
 times m n d h = mul-le-mul-right d (omega arith)
 
 le-up : (low : Float) (m n : ℕ) → m ≤ n → le low (quarters m) ≡ true → le low (quarters n) ≡ true

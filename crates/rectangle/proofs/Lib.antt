@@ -2,4 +2,6 @@
 pub mod Exact
 pub mod Outside
 pub mod Inside
+pub mod First
+pub mod Outlined
 pub mod Samples

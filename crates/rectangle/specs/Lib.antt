@@ -2,3 +2,4 @@
 pub mod Rectangle
 pub mod Axes
 pub mod Window
+pub mod Outline

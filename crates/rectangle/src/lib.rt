@@ -1,12 +1,15 @@
-// The rectangle of writeback.rs `rasterize`: which of a pixel's eight samples it holds, and which columns and rows it can
-// touch. A side is any f32, a NaN or an infinity too.
+// The rectangle of writeback.rs `rasterize`: which of a pixel's eight samples it holds, which columns and rows it can
+// touch, and its edges as those of a triangle. A side is any f32, a NaN or an infinity too.
 ghost use mathlib.Core.Path.{_≡_};
 ghost use Prim.Native.Nat.{_<_, _≤_, min, max};
 ghost use Rattle.rectangle.specs.Rectangle.{withinOf, rectMask};
 ghost use Rattle.rectangle.specs.Axes.{quarterBit, placedAt, bitsOfColumn, bitsOfRow};
 ghost use Rattle.rectangle.specs.Window.{Untouched, EmptyColumn, EmptyRow, Filled, FullColumn};
+ghost use Rattle.rectangle.specs.Outline.{Before, From, uprightOf, Outlines};
 ghost use Rattle.range.specs.Kept.{Kept};
 ghost use Rattle.range.specs.Inner.{Inner};
+use edge::Edge;
+use edges::Tri;
 use range::Range;
 
 pub struct Sides {
@@ -95,7 +98,57 @@ fn inner(low: f32, high: f32, a: u32, b: u32) -> Range
     Range { start: a, end: a }
 }
 
+// How many of an axis's quarters, 0 to 4095, lie before the side: none, if it is a NaN. The nearest one is no further off than half a quarter, so that it is
+// the last of them or the first that is none of them.
+fn quarters_before(side: f32) -> u32
+    ensures { λ n. ⌜ Before side n ⌝ }
+{
+    let n = edge::clamp(num::quarter(side), 0, 4095);
+    if n as f32 * 0.25 < side { n + 1 } else { n }
+}
+
+// The first of them that lies at the side or after it: none, which is 4096, if it is a NaN.
+fn first_quarter(side: f32) -> u32
+    ensures { λ n. ⌜ From side n ⌝ }
+{
+    if side != side {
+        return 4096;
+    }
+    quarters_before(side)
+}
+
+// An upright edge at quarter q.
+fn upright(q: u32) -> Edge
+    requires { ⌜ q ≤ 4096 ⌝ }
+    ensures { λ e. ⌜ e ≡ uprightOf q ⌝ }
+{
+    Edge {
+        start: (q as i64) << 14,
+        step: 0,
+        base: 0,
+    }
+}
+
 impl Sides {
+    // The rectangle by edges, as a triangle has them: the samples between them are those that it holds.
+    pub fn outline(self) -> Tri
+        ensures { λ t. ⌜ Outlines self t ⌝ }
+    {
+        let major = upright(first_quarter(self.left));
+        let other = upright(quarters_before(self.right));
+        let top = first_quarter(self.top) as i64;
+        let end = quarters_before(self.bottom) as i64;
+        Tri {
+            major,
+            upper: other,
+            lower: other,
+            top,
+            mid: end,
+            end,
+            rightward: true,
+        }
+    }
+
     // The samples of column x that lie between the left and right sides. Bit 7 is row 0's left one.
     pub fn column_bits(self, x: u32) -> u8
         requires { ⌜ x < 1024 ⌝ }
