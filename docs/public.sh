@@ -13,12 +13,12 @@ functions() {
             /^}/ { type = "" }
             /^ *pub (extern "C" )?fn / { text = ""; taking = 1 }
             taking { text = text " " $0 }
-            taking && /\{$/ && !/(requires|ensures) \{$/ {
+            taking && /\{$/ && !/(requires|ensures)( [a-z_]+)? \{$/ {
                 taking = 0
                 name = text; sub(/.*[ ]fn /, "", name); sub(/.*pub fn /, "", name); sub(/\(.*/, "", name)
                 answer = "-"
                 if (match(text, /\) -> [A-Za-z0-9_:]+/)) { answer = substr(text, RSTART + 5, RLENGTH - 5); sub(/.*::/, "", answer) }
-                print crate, type name, answer, (text ~ / requires \{/ ? "requires" : "total"), (text ~ / ensures \{/ ? "ensures" : "silent"), (text ~ /(Means|Number) r / ? "means" : "bare")
+                print crate, type name, answer, (text ~ / requires( [a-z_]+)? \{/ ? "requires" : "total"), (text ~ / ensures( [a-z_]+)? \{/ ? "ensures" : "silent"), (text ~ /(Means|Number) r / ? "means" : "bare")
             }' "$crate"/src/*.rt
     done
 }

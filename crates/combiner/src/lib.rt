@@ -272,7 +272,8 @@ pub fn alpha_input(combiner: Combiner, input: AlphaIn, shade: Rgba) -> Input
 impl Combiner {
     // The combiner of a draw, if it gives a colour. Whether it does turns on no shade, so one shade tells.
     pub fn new(uniform: CombinerUniform, mode: RenderMode) -> Made
-        ensures { λ r. ⌜ madeMeans r ≡ newCall uniform mode ⌝ ∗ ⌜ r ≡ newOf uniform mode ⌝ }
+        ensures answer { λ r. ⌜ madeMeans r ≡ newCall uniform mode ⌝ }
+        ensures value { λ r. ⌜ r ≡ newOf uniform mode ⌝ }
     {
         if uniform.tex_enable != 0 {
             return Made::Without;
@@ -320,7 +321,8 @@ impl Combiner {
 
     // The colour for a shade.
     pub fn color(self, shade: Rgba) -> Color
-        ensures { λ r. ⌜ colorMeans r ≡ colorCall self shade ⌝ ∗ ⌜ r ≡ colorOf self shade ⌝ }
+        ensures answer { λ r. ⌜ colorMeans r ≡ colorCall self shade ⌝ }
+        ensures value { λ r. ⌜ r ≡ colorOf self shade ⌝ }
     {
         let Input::Value(r) = self.rgb(shade, 0) else {
             return Color::Refused;
@@ -339,7 +341,8 @@ impl Combiner {
 
     // The word of a combiner that gives one constant colour, each channel of it empty or full.
     pub fn strict_color(self) -> Strict
-        ensures { λ r. ⌜ strictMeans r ≡ strictCall self ⌝ ∗ ⌜ r ≡ strictOf self ⌝ }
+        ensures answer { λ r. ⌜ strictMeans r ≡ strictCall self ⌝ }
+        ensures value { λ r. ⌜ r ≡ strictOf self ⌝ }
     {
         if is_flat(self.selectors) {
             let Color::Value(r, g, b, a) = self.color(full_shade()) else {

@@ -66,7 +66,8 @@ pub struct CombinerSelectors {
 
 // The colour slot a, of four bits.
 pub fn color_a(idx: u32) -> ColorIn
-    ensures { λ r. ⌜ colorNumber r ≡ colorNumber (select colorA ColorIn.Zero 4 idx) ⌝ ∗ ⌜ r ≡ select colorA ColorIn.Zero 4 idx ⌝ }
+    ensures answer { λ r. ⌜ colorNumber r ≡ colorNumber (select colorA ColorIn.Zero 4 idx) ⌝ }
+    ensures value { λ r. ⌜ r ≡ select colorA ColorIn.Zero 4 idx ⌝ }
 {
     match idx & 0xF {
         0 => ColorIn::Combined,
@@ -83,7 +84,8 @@ pub fn color_a(idx: u32) -> ColorIn
 
 // The colour slot b, of four bits.
 pub fn color_b(idx: u32) -> ColorIn
-    ensures { λ r. ⌜ colorNumber r ≡ colorNumber (select colorB ColorIn.Zero 4 idx) ⌝ ∗ ⌜ r ≡ select colorB ColorIn.Zero 4 idx ⌝ }
+    ensures answer { λ r. ⌜ colorNumber r ≡ colorNumber (select colorB ColorIn.Zero 4 idx) ⌝ }
+    ensures value { λ r. ⌜ r ≡ select colorB ColorIn.Zero 4 idx ⌝ }
 {
     match idx & 0xF {
         0 => ColorIn::Combined,
@@ -100,7 +102,8 @@ pub fn color_b(idx: u32) -> ColorIn
 
 // The colour slot c, of five bits.
 pub fn color_c(idx: u32) -> ColorIn
-    ensures { λ r. ⌜ colorNumber r ≡ colorNumber (select colorC ColorIn.Zero 5 idx) ⌝ ∗ ⌜ r ≡ select colorC ColorIn.Zero 5 idx ⌝ }
+    ensures answer { λ r. ⌜ colorNumber r ≡ colorNumber (select colorC ColorIn.Zero 5 idx) ⌝ }
+    ensures value { λ r. ⌜ r ≡ select colorC ColorIn.Zero 5 idx ⌝ }
 {
     match idx & 0x1F {
         0 => ColorIn::Combined,
@@ -125,7 +128,8 @@ pub fn color_c(idx: u32) -> ColorIn
 
 // The colour slot d, of three bits.
 pub fn color_d(idx: u32) -> ColorIn
-    ensures { λ r. ⌜ colorNumber r ≡ colorNumber (select colorD ColorIn.Zero 3 idx) ⌝ ∗ ⌜ r ≡ select colorD ColorIn.Zero 3 idx ⌝ }
+    ensures answer { λ r. ⌜ colorNumber r ≡ colorNumber (select colorD ColorIn.Zero 3 idx) ⌝ }
+    ensures value { λ r. ⌜ r ≡ select colorD ColorIn.Zero 3 idx ⌝ }
 {
     match idx & 0x7 {
         0 => ColorIn::Combined,
@@ -141,7 +145,8 @@ pub fn color_d(idx: u32) -> ColorIn
 
 // The alpha slots a, b and d, of three bits.
 pub fn alpha_abd(idx: u32) -> AlphaIn
-    ensures { λ r. ⌜ alphaNumber r ≡ alphaNumber (select alphaABD AlphaIn.Zero 3 idx) ⌝ ∗ ⌜ r ≡ select alphaABD AlphaIn.Zero 3 idx ⌝ }
+    ensures answer { λ r. ⌜ alphaNumber r ≡ alphaNumber (select alphaABD AlphaIn.Zero 3 idx) ⌝ }
+    ensures value { λ r. ⌜ r ≡ select alphaABD AlphaIn.Zero 3 idx ⌝ }
 {
     match idx & 0x7 {
         0 => AlphaIn::Combined,
@@ -157,7 +162,8 @@ pub fn alpha_abd(idx: u32) -> AlphaIn
 
 // The alpha slot c, of three bits.
 pub fn alpha_c(idx: u32) -> AlphaIn
-    ensures { λ r. ⌜ alphaNumber r ≡ alphaNumber (select alphaC AlphaIn.Zero 3 idx) ⌝ ∗ ⌜ r ≡ select alphaC AlphaIn.Zero 3 idx ⌝ }
+    ensures answer { λ r. ⌜ alphaNumber r ≡ alphaNumber (select alphaC AlphaIn.Zero 3 idx) ⌝ }
+    ensures value { λ r. ⌜ r ≡ select alphaC AlphaIn.Zero 3 idx ⌝ }
 {
     match idx & 0x7 {
         0 => AlphaIn::LodFraction,
