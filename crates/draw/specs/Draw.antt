@@ -18,6 +18,7 @@ use Rattle.raster.specs.Emitted.{Emit, geometryEmits}
 use Rattle.draw.specs.declared.Drawn.{Drawn}
 use Rattle.draw.specs.declared.Drawn.the-variants.{Emitted, Refused}
 use Rattle.frame.specs.Frame.{Frame}
+use Rattle.frame.specs.Lent.{Slice, old}
 use Rattle.paint.specs.Steps.{drawList}
 use Rattle.draw.specs.Checks.{entryRefusal}
 
@@ -44,6 +45,11 @@ drawArgs mode uniform cull scissor geometry vertices present indices =
       present = present;
       indices = indices;
     }
+
+-- the draw that a call is given, its three slices as they were lent
+abbrev pub drawOf : RenderMode → CombinerUniform → Bool → Scissor → Geometry → Slice Float → Slice ℕ → Slice ℕ → DrawArgs
+drawOf mode uniform cull scissor geometry vertices present indices =
+    drawArgs mode uniform cull scissor geometry (old vertices) (old present) (old indices)
 
 -- turned away with a number, or a combiner and the pixels that it emits
 pub data Plan : Type 0 where

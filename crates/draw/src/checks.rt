@@ -1,6 +1,6 @@
 // Why a draw is turned away: numbers 1 to 5 (docs/RULES.md, The numbers), the first that holds.
 ghost use mathlib.Core.Path.{_≡_};
-ghost use Rattle.frame.specs.Frame.{frameOf};
+ghost use Rattle.frame.specs.Lent.{old, before};
 ghost use Rattle.draw.specs.Checks.{scissorOk, flagsOk, inputsOk, entryRefusal};
 use raster::Scissor;
 
@@ -26,7 +26,7 @@ fn scissor_ok(s: Scissor) -> bool
 }
 
 fn flags_ok(present: &[u8]) -> bool
-    ensures { λ r. ⌜ r ≡ flagsOk (now (present .entry)) ⌝ }
+    ensures { λ r. ⌜ r ≡ flagsOk (old present) ⌝ }
 {
     let mut i = 0;
     while i < present.len() {
@@ -40,7 +40,7 @@ fn flags_ok(present: &[u8]) -> bool
 }
 
 fn inputs_ok(vertices: &[f32], present: &[u8], indices: &[u32]) -> bool
-    ensures { λ r. ⌜ r ≡ inputsOk (now (vertices .entry)) (now (present .entry)) (now (indices .entry)) ⌝ }
+    ensures { λ r. ⌜ r ≡ inputsOk (old vertices) (old present) (old indices) ⌝ }
 {
     let count = present.len();
     if VERTICES < count {
@@ -70,7 +70,7 @@ pub fn entry_refusal(
     present: &[u8],
     indices: &[u32],
 ) -> u8
-    ensures { λ r. ⌜ r ≡ entryRefusal (frameOf (now (colors .entry)) (now (coverages .entry)) (now (marks .entry))) width height scissor (now (vertices .entry)) (now (present .entry)) (now (indices .entry)) ⌝ }
+    ensures { λ r. ⌜ r ≡ entryRefusal (before colors coverages marks) width height scissor (old vertices) (old present) (old indices) ⌝ }
 {
     let refusal = frame::checks::frame_refusal(colors, coverages, marks, width, height);
     if refusal != 0 {

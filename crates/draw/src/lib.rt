@@ -6,11 +6,11 @@ ghost use lib.ListN.{length};
 ghost use Rattle.raster.specs.Admitted.{admittedOf};
 ghost use Rattle.raster.specs.Area.{Sized};
 ghost use Rattle.raster.specs.Emitted.{geometryEmits};
-ghost use Rattle.frame.specs.Frame.{frameOf};
-ghost use Rattle.paint.specs.Pixel.{Drew, Room};
+ghost use Rattle.frame.specs.Lent.{old, lent, before, after};
+ghost use Rattle.paint.specs.Pixel.{DrewOn, Room};
 ghost use Rattle.paint.specs.Pen.{Mixed};
-ghost use Rattle.draw.specs.Draw.{drawArgs, planOf, drawnMeans, drawAnswer, drawFrame, Numbered};
-ghost use Rattle.draw.specs.Answered.{planBy};
+ghost use Rattle.draw.specs.Draw.{drawOf, drawnMeans, drawAnswer, drawFrame, Numbered};
+ghost use Rattle.draw.specs.Answered.{Planned};
 use combiner::Combiner;
 use combiner::Made;
 use mode::CombinerUniform;
@@ -47,7 +47,7 @@ fn accept(
     present: &[u8],
     indices: &[u32],
 ) -> Accepted
-    ensures { λ r. ⌜ planBy (drawArgs mode uniform cull scissor geometry (now (vertices .entry)) (now (present .entry)) (now (indices .entry))) width height r ≡ planOf (drawArgs mode uniform cull scissor geometry (now (vertices .entry)) (now (present .entry)) (now (indices .entry))) width height (frameOf (now (colors .entry)) (now (coverages .entry)) (now (marks .entry))) ⌝ }
+    ensures plan { λ r. ⌜ Planned (drawOf mode uniform cull scissor geometry vertices present indices) width height (before colors coverages marks) r ⌝ }
 {
     let refusal = checks::entry_refusal(
         colors,
@@ -88,8 +88,11 @@ fn draw_geometry(
     present: &[u8],
     indices: &[u32],
 ) -> u64
-    requires { ⌜ (length (now indices) ≤ 12288) × Mixed combiner ⌝ ∗ ⌜ admittedOf combiner geometry (now vertices) (now present) (now indices) ≡ true ⌝ ∗ ⌜ Sized scissor width height ⌝ ∗ ⌜ Room width height (frameOf (now colors) (now coverages) (now marks)) ⌝ }
-    ensures { λ r. ⌜ Drew mode combiner (length (now (marks .entry))) (geometryEmits mode combiner cull scissor width height (now (vertices .entry)) (now (present .entry)) (now (indices .entry)) geometry) (frameOf (now (colors .entry)) (now (coverages .entry)) (now (marks .entry))) (frameOf (now (colors .exit)) (now (coverages .exit)) (now (marks .exit))) r ⌝ }
+    requires few { ⌜ (length (now indices) ≤ 12288) × Mixed combiner ⌝ }
+    requires admitted { ⌜ admittedOf combiner geometry (now vertices) (now present) (now indices) ≡ true ⌝ }
+    requires sized { ⌜ Sized scissor width height ⌝ }
+    requires room { ⌜ Room width height (lent colors coverages marks) ⌝ }
+    ensures drew { λ r. ⌜ DrewOn mode combiner (geometryEmits mode combiner cull scissor width height (old vertices) (old present) (old indices) geometry) colors coverages marks r ⌝ }
 {
     let pen = paint::pen::pen_of(mode, combiner);
     match geometry {
@@ -135,7 +138,9 @@ pub fn draw(
     present: &[u8],
     indices: &[u32],
 ) -> Drawn
-    ensures { λ r. ⌜ drawnMeans r ≡ drawAnswer (drawArgs mode uniform cull scissor geometry (now (vertices .entry)) (now (present .entry)) (now (indices .entry))) width height (frameOf (now (colors .entry)) (now (coverages .entry)) (now (marks .entry))) ⌝ ∗ ⌜ frameOf (now (colors .exit)) (now (coverages .exit)) (now (marks .exit)) ≡ drawFrame (drawArgs mode uniform cull scissor geometry (now (vertices .entry)) (now (present .entry)) (now (indices .entry))) width height (frameOf (now (colors .entry)) (now (coverages .entry)) (now (marks .entry))) ⌝ ∗ ⌜ Numbered r ⌝ }
+    ensures answer { λ r. ⌜ drawnMeans r ≡ drawAnswer (drawOf mode uniform cull scissor geometry vertices present indices) width height (before colors coverages marks) ⌝ }
+    ensures frame { λ r. ⌜ after colors coverages marks ≡ drawFrame (drawOf mode uniform cull scissor geometry vertices present indices) width height (before colors coverages marks) ⌝ }
+    ensures number { λ r. ⌜ Numbered r ⌝ }
 {
     match accept(
         width,

@@ -1,5 +1,6 @@
 -- The definitions that the contracts of `frame` cite, what may be loaded, and when two frames are alike.
 pub mod Frame
+pub mod Lent
 pub mod Fits
 pub mod Loads
 pub mod Checks

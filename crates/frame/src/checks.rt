@@ -5,7 +5,7 @@ ghost use Prim.Native.Nat.{_*_, _<_, _≤_};
 ghost use lib.Dec.{eqb};
 ghost use lib.ListN.{length, getD};
 ghost use Rattle.cell.specs.Marks.{highestMark, coverageMarked};
-ghost use Rattle.frame.specs.Frame.{frameOf};
+ghost use Rattle.frame.specs.Lent.{before};
 ghost use Rattle.frame.specs.Loads.{CoverageThere};
 ghost use Rattle.frame.specs.Checks.{sizeOk, sizesOk, markOk, marksOk, frameRefusal};
 ghost use Rattle.frame.specs.Told.{every, atMost, Tells};
@@ -203,7 +203,7 @@ fn marks_ok(coverages: &[u8], marks: &[u8]) -> bool
 
 // The first of numbers 1 to 3 that holds, or 0.
 pub fn frame_refusal(colors: &[u8], coverages: &[u8], marks: &[u8], width: u32, height: u32) -> u8
-    ensures { λ r. ⌜ r ≡ frameRefusal (frameOf (now (colors .entry)) (now (coverages .entry)) (now (marks .entry))) width height ⌝ }
+    ensures { λ r. ⌜ r ≡ frameRefusal (before colors coverages marks) width height ⌝ }
 {
     if !sizes_ok(width, height) {
         return 1;

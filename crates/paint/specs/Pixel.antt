@@ -12,6 +12,7 @@ use Rattle.raster.specs.declared.Fragment.the-variants.{Empty, Covered}
 use Rattle.raster.specs.Emitted.{Emit}
 use Rattle.frame.specs.Frame.{Frame}
 use Rattle.frame.specs.Fits.{Fit}
+use Rattle.frame.specs.Lent.{Slice, old, before, after}
 use mathlib.Core.List.{List}
 use Rattle.mode.specs.declared.RenderMode.{RenderMode}
 use Rattle.combiner.specs.declared.Combiner.{Combiner}
@@ -22,6 +23,11 @@ use Rattle.paint.specs.Steps.{stepFrame}
 pub record Drew (mode : RenderMode) (k : Combiner) (n : ℕ) (es : List Emit) (before after : Frame) (count : ℕ) : Type 0 where
   pub ran : Ran (stepFrame mode k) es before after count
   pub fit : Fit n after
+
+-- the same of the frame that a call is lent
+abbrev pub DrewOn : RenderMode → Combiner → List Emit → Slice ℕ → Slice ℕ → Slice ℕ → ℕ → Type 0
+DrewOn mode k es colors coverages marks count =
+    Drew mode k (length (old marks)) es (before colors coverages marks) (after colors coverages marks) count
 
 abbrev pub emitOf : ℕ → ℕ → Rgba → Float → Emit
 emitOf pixel mask color shade = record { pixel = pixel; mask = mask; color = color; shade = shade }

@@ -13,6 +13,7 @@ use Rattle.pack.specs.Color.{packColorOf}
 use Rattle.pack.specs.Dither.{thresholdOf}
 use Rattle.pack.specs.Writer as writer
 use Rattle.frame.specs.Frame.{Frame, cellAt}
+use Rattle.frame.specs.Lent.{Slice, old, new}
 use Rattle.words.specs.Read.{WordAnswer, noWord, readable, bytesOf}
 use Rattle.runs.specs.declared.entry.Place.{Place}
 
@@ -45,6 +46,17 @@ pub record Wrote (answer : ℕ → WordAnswer) (lo hi n : ℕ) (before after : E
   pub matched : Matched n after
   pub written : (i : ℕ) → lo ≤ i → i < hi → entryAt after i ≡ answer i
   pub kept : (i : ℕ) → i < lo → entryAt after i ≡ entryAt before i
+
+-- ---- what a call does to the two slices that it is lent
+
+-- it writes one entry
+abbrev pub PutIn : ℕ → WordAnswer → Slice ℕ → Slice ℕ → Type 0
+PutIn i x words numbers = entriesOf (new words) (new numbers) ≡ putEntry (entriesOf (old words) (old numbers)) i x
+
+-- it writes entries lo to hi - 1
+abbrev pub WroteIn : (ℕ → WordAnswer) → ℕ → ℕ → Slice ℕ → Slice ℕ → Type 0
+WroteIn answer lo hi words numbers =
+    Wrote answer lo hi (length (old numbers)) (entriesOf (old words) (old numbers)) (entriesOf (new words) (new numbers))
 
 -- ---- an answer
 abbrev pub answerOf : ℕ → Bytes2 → WordAnswer

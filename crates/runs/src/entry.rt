@@ -3,11 +3,12 @@
 ghost use mathlib.Core.Path.{_≡_};
 ghost use Prim.Native.Nat.{ℕ, _+_, _*_, _<_, _≤_};
 ghost use lib.ListN.{length, getD};
-ghost use Rattle.frame.specs.Frame.{frameOf, cellAt};
+ghost use Rattle.frame.specs.Frame.{cellAt};
+ghost use Rattle.frame.specs.Lent.{old, lent, before};
 ghost use Rattle.frame.specs.Fits.{Fit};
 ghost use Rattle.frame.specs.Loads.{ColorKnown, CoverageKnown, ColorThere, Loadable};
 ghost use Rattle.runs.specs.Run.{oneIf, countOf, answersFrom};
-ghost use Rattle.runs.specs.Entries.{entriesOf, putEntry, Matched, Wrote, answerOf, refusedBy, colorAt, halfword, byteOf, wordAt, answerAt, answerIn, At};
+ghost use Rattle.runs.specs.Entries.{entriesOf, Matched, PutIn, WroteIn, answerOf, refusedBy, colorAt, halfword, byteOf, wordAt, answerAt, answerIn, At};
 use pack::Bytes2;
 use pack::FramebufferEncoding;
 use pack::Rgba8;
@@ -19,8 +20,9 @@ pub struct Place {
 }
 
 fn put_entry(words: &mut [u8], numbers: &mut [u8], i: usize, number: u8, word: Bytes2)
-    requires { ⌜ i < length (now numbers) ⌝ ∗ ⌜ Matched (length (now numbers)) (entriesOf (now words) (now numbers)) ⌝ }
-    ensures { λ r. ⌜ entriesOf (now (words .exit)) (now (numbers .exit)) ≡ putEntry (entriesOf (now (words .entry)) (now (numbers .entry))) i (answerOf number word) ⌝ }
+    requires below { ⌜ i < length (now numbers) ⌝ }
+    requires matched { ⌜ Matched (length (now numbers)) (entriesOf (now words) (now numbers)) ⌝ }
+    ensures { λ r. ⌜ PutIn i (answerOf number word) words numbers ⌝ }
 {
     let at = 2 * i;
     let next = at + 1;
@@ -31,8 +33,9 @@ fn put_entry(words: &mut [u8], numbers: &mut [u8], i: usize, number: u8, word: B
 
 // The entries from `start` up to `end`, turned away with one number.
 pub fn fill(words: &mut [u8], numbers: &mut [u8], start: usize, end: usize, number: u8)
-    requires { ⌜ end ≤ length (now numbers) ⌝ ∗ ⌜ Matched (length (now numbers)) (entriesOf (now words) (now numbers)) ⌝ }
-    ensures { λ r. ⌜ Wrote (λ (i : ℕ). refusedBy number) start end (length (now (numbers .entry))) (entriesOf (now (words .entry)) (now (numbers .entry))) (entriesOf (now (words .exit)) (now (numbers .exit))) ⌝ }
+    requires within { ⌜ end ≤ length (now numbers) ⌝ }
+    requires matched { ⌜ Matched (length (now numbers)) (entriesOf (now words) (now numbers)) ⌝ }
+    ensures { λ r. ⌜ WroteIn (λ (i : ℕ). refusedBy number) start end words numbers ⌝ }
 {
     let none = Bytes2(0, 0);
     for i in start..end {
@@ -50,8 +53,9 @@ fn read_halfword(
     rgb_dither: u8,
     encoding: FramebufferEncoding,
 ) -> Bytes2
-    requires { ⌜ ColorKnown (now marks) pixel × CoverageKnown (now marks) pixel ⌝ ∗ ⌜ Loadable (frameOf (now colors) (now coverages) (now marks)) pixel ⌝ }
-    ensures { λ r. ⌜ r ≡ halfword (place .x) (place .y) «rgb_dither» encoding (colorAt (now (colors .entry)) pixel) (getD (now (coverages .entry)) pixel 0) ⌝ }
+    requires known { ⌜ ColorKnown (now marks) pixel × CoverageKnown (now marks) pixel ⌝ }
+    requires there { ⌜ Loadable (lent colors coverages marks) pixel ⌝ }
+    ensures { λ r. ⌜ r ≡ halfword (place .x) (place .y) «rgb_dither» encoding (colorAt (old colors) pixel) (getD (old coverages) pixel 0) ⌝ }
 {
     let color = frame::load::color(colors, marks, pixel);
     let coverage = frame::load::coverage(coverages, marks, pixel);
@@ -68,8 +72,9 @@ fn read_halfword(
 
 // A pixel of 8 bits: red in even columns, green in odd ones.
 fn read_byte(colors: &[u8], marks: &[u8], pixel: usize, x: usize) -> Bytes2
-    requires { ⌜ ColorKnown (now marks) pixel ⌝ ∗ ⌜ ColorThere (now colors) (now marks) pixel ⌝ }
-    ensures { λ r. ⌜ r ≡ byteOf x (colorAt (now (colors .entry)) pixel) ⌝ }
+    requires known { ⌜ ColorKnown (now marks) pixel ⌝ }
+    requires there { ⌜ ColorThere (now colors) (now marks) pixel ⌝ }
+    ensures { λ r. ⌜ r ≡ byteOf x (colorAt (old colors) pixel) ⌝ }
 {
     let color = frame::load::color(colors, marks, pixel);
     if x % 2 == 0 {
@@ -88,8 +93,9 @@ fn read_at(
     rgb_dither: u8,
     encoding: FramebufferEncoding,
 ) -> Bytes2
-    requires { ⌜ ColorKnown (now marks) pixel × (siz ≡ 2 → CoverageKnown (now marks) pixel) ⌝ ∗ ⌜ Loadable (frameOf (now colors) (now coverages) (now marks)) pixel ⌝ }
-    ensures { λ r. ⌜ r ≡ wordAt siz (place .x) (place .y) «rgb_dither» encoding (colorAt (now (colors .entry)) pixel) (getD (now (coverages .entry)) pixel 0) ⌝ }
+    requires known { ⌜ ColorKnown (now marks) pixel × (siz ≡ 2 → CoverageKnown (now marks) pixel) ⌝ }
+    requires there { ⌜ Loadable (lent colors coverages marks) pixel ⌝ }
+    ensures { λ r. ⌜ r ≡ wordAt siz (place .x) (place .y) «rgb_dither» encoding (colorAt (old colors) pixel) (getD (old coverages) pixel 0) ⌝ }
 {
     if siz == 2 {
         return read_halfword(colors, coverages, marks, pixel, place, rgb_dither, encoding);
@@ -111,8 +117,11 @@ fn read_entry(
     numbers: &mut [u8],
     i: usize,
 ) -> u64
-    requires { ⌜ Loadable (frameOf (now colors) (now coverages) (now marks)) pixel ⌝ ∗ ⌜ i < length (now numbers) ⌝ ∗ ⌜ Matched (length (now numbers)) (entriesOf (now words) (now numbers)) ⌝ }
-    ensures { λ r. ⌜ entriesOf (now (words .exit)) (now (numbers .exit)) ≡ putEntry (entriesOf (now (words .entry)) (now (numbers .entry))) i (answerAt siz (place .x) (place .y) «rgb_dither» encoding (cellAt (frameOf (now (colors .entry)) (now (coverages .entry)) (now (marks .entry))) pixel)) ⌝ ∗ ⌜ r ≡ oneIf (answerAt siz (place .x) (place .y) «rgb_dither» encoding (cellAt (frameOf (now (colors .entry)) (now (coverages .entry)) (now (marks .entry))) pixel) .number) ⌝ }
+    requires there { ⌜ Loadable (lent colors coverages marks) pixel ⌝ }
+    requires below { ⌜ i < length (now numbers) ⌝ }
+    requires matched { ⌜ Matched (length (now numbers)) (entriesOf (now words) (now numbers)) ⌝ }
+    ensures entry { λ r. ⌜ PutIn i (answerAt siz (place .x) (place .y) «rgb_dither» encoding (cellAt (before colors coverages marks) pixel)) words numbers ⌝ }
+    ensures count { λ r. ⌜ r ≡ oneIf (answerAt siz (place .x) (place .y) «rgb_dither» encoding (cellAt (before colors coverages marks) pixel) .number) ⌝ }
 {
     let mark = marks[pixel];
     if !words::is_readable(mark, siz) {
@@ -136,7 +145,8 @@ fn read_entry(
 
 // The place of the next pixel.
 fn next_place(place: Place, width: usize) -> Place
-    requires { ⌜ place .x < width ⌝ ∗ ⌜ place .y * width + place .x ≤ 1048576 ⌝ }
+    requires column { ⌜ place .x < width ⌝ }
+    requires pixel { ⌜ place .y * width + place .x ≤ 1048576 ⌝ }
     ensures { λ r. ⌜ At width (place .y * width + place .x + 1) r ⌝ }
 {
     let x = place.x + 1;
@@ -161,8 +171,11 @@ pub fn read_entries(
     numbers: &mut [u8],
     count: usize,
 ) -> u64
-    requires { ⌜ (0 < width) × (0 < count → first + count ≤ length (now marks)) × (length (now marks) ≤ 1048576) × (count ≤ length (now numbers)) ⌝ ∗ ⌜ Fit (length (now marks)) (frameOf (now colors) (now coverages) (now marks)) ⌝ ∗ ⌜ Matched (length (now numbers)) (entriesOf (now words) (now numbers)) ⌝ }
-    ensures { λ r. ⌜ Wrote (λ (i : ℕ). answerIn width siz «rgb_dither» encoding (frameOf (now (colors .entry)) (now (coverages .entry)) (now (marks .entry))) (first + i)) 0 count (length (now (numbers .entry))) (entriesOf (now (words .entry)) (now (numbers .entry))) (entriesOf (now (words .exit)) (now (numbers .exit))) ⌝ ∗ ⌜ r ≡ countOf (answersFrom (λ (i : ℕ). answerIn width siz «rgb_dither» encoding (frameOf (now (colors .entry)) (now (coverages .entry)) (now (marks .entry))) (first + i)) 0 count) ⌝ }
+    requires there { ⌜ (0 < width) × (0 < count → first + count ≤ length (now marks)) × (length (now marks) ≤ 1048576) × (count ≤ length (now numbers)) ⌝ }
+    requires fit { ⌜ Fit (length (now marks)) (lent colors coverages marks) ⌝ }
+    requires matched { ⌜ Matched (length (now numbers)) (entriesOf (now words) (now numbers)) ⌝ }
+    ensures entries { λ r. ⌜ WroteIn (λ (i : ℕ). answerIn width siz «rgb_dither» encoding (before colors coverages marks) (first + i)) 0 count words numbers ⌝ }
+    ensures count { λ r. ⌜ r ≡ countOf (answersFrom (λ (i : ℕ). answerIn width siz «rgb_dither» encoding (before colors coverages marks) (first + i)) 0 count) ⌝ }
 {
     let mut n: u64 = 0;
     let mut place = Place {

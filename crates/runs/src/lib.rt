@@ -3,11 +3,11 @@ ghost use mathlib.Core.Path.{_≡_};
 ghost use Prim.Native.Nat.{ℕ, _+_, _-_, _*_, _<_, _≤_, min};
 ghost use lib.Dec.{eqb};
 ghost use lib.ListN.{length};
-ghost use Rattle.frame.specs.Frame.{frameOf};
+ghost use Rattle.frame.specs.Lent.{old, new, lent, before};
 ghost use Rattle.frame.specs.Checks.{frameRefusal};
 ghost use Rattle.words.specs.Read.{readArgs, readAnswer};
-ghost use Rattle.runs.specs.Run.{readAt, answersFrom, countOf, runMeans, NumberedRun, runAnswer};
-ghost use Rattle.runs.specs.Entries.{entriesOf, Matched, Wrote};
+ghost use Rattle.runs.specs.Run.{readAt, readAnswers, countOf, runMeans, NumberedRun, runAnswer};
+ghost use Rattle.runs.specs.Entries.{entriesOf, Matched, WroteIn};
 use pack::FramebufferEncoding;
 
 mod entry; // the entries of a run
@@ -61,8 +61,11 @@ fn read_there(
     numbers: &mut [u8],
     count: usize,
 ) -> u64
-    requires { ⌜ frameRefusal (frameOf (now colors) (now coverages) (now marks)) width height ≡ 0 ⌝ ∗ ⌜ (0 < count → first + count ≤ length (now marks)) × (count ≤ length (now numbers)) ⌝ ∗ ⌜ Matched (length (now numbers)) (entriesOf (now words) (now numbers)) ⌝ }
-    ensures { λ r. ⌜ Wrote (λ (i : ℕ). readAnswer (readAt (readArgs first fmt siz «rgb_dither» encoding) i) width height (frameOf (now (colors .entry)) (now (coverages .entry)) (now (marks .entry)))) 0 count (length (now (numbers .entry))) (entriesOf (now (words .entry)) (now (numbers .entry))) (entriesOf (now (words .exit)) (now (numbers .exit))) ⌝ ∗ ⌜ r ≡ countOf (answersFrom (λ (i : ℕ). readAnswer (readAt (readArgs first fmt siz «rgb_dither» encoding) i) width height (frameOf (now (colors .entry)) (now (coverages .entry)) (now (marks .entry)))) 0 count) ⌝ }
+    requires accepted { ⌜ frameRefusal (lent colors coverages marks) width height ≡ 0 ⌝ }
+    requires there { ⌜ (0 < count → first + count ≤ length (now marks)) × (count ≤ length (now numbers)) ⌝ }
+    requires matched { ⌜ Matched (length (now numbers)) (entriesOf (now words) (now numbers)) ⌝ }
+    ensures entries { λ r. ⌜ WroteIn (λ (i : ℕ). readAnswer (readAt (readArgs first fmt siz «rgb_dither» encoding) i) width height (before colors coverages marks)) 0 count words numbers ⌝ }
+    ensures count { λ r. ⌜ r ≡ countOf (readAnswers (readArgs first fmt siz «rgb_dither» encoding) width height (before colors coverages marks) count) ⌝ }
 {
     let writer = words::writer(width, fmt, siz);
     if !pack::supported(writer) {
@@ -100,7 +103,8 @@ pub fn read_words(
     words: &mut [u8],
     numbers: &mut [u8],
 ) -> Run
-    ensures { λ r. ⌜ runMeans r (now (words .exit)) (now (numbers .exit)) ≡ runAnswer (readArgs first fmt siz «rgb_dither» encoding) width height (frameOf (now (colors .entry)) (now (coverages .entry)) (now (marks .entry))) (now (words .entry)) (now (numbers .entry)) ⌝ ∗ ⌜ NumberedRun r ⌝ }
+    ensures answer { λ r. ⌜ runMeans r (new words) (new numbers) ≡ runAnswer (readArgs first fmt siz «rgb_dither» encoding) width height (before colors coverages marks) (old words) (old numbers) ⌝ }
+    ensures number { λ r. ⌜ NumberedRun r ⌝ }
 {
     let entries = numbers.len();
     if !is_matched(words.len(), entries) {

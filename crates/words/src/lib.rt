@@ -2,7 +2,8 @@
 // where it is marked.
 ghost use mathlib.Core.Path.{_≡_};
 ghost use Prim.Native.Nat.{_<_, _≤_};
-ghost use Rattle.frame.specs.Frame.{frameOf, cellAt};
+ghost use Rattle.frame.specs.Frame.{cellAt};
+ghost use Rattle.frame.specs.Lent.{lent, before};
 ghost use Rattle.frame.specs.Loads.{ColorKnown, Loadable};
 ghost use Rattle.words.specs.Read.{readable, writerBy, wordBy, readArgs, wordMeans, readAnswer, Numbered};
 use pack::Bytes2;
@@ -51,8 +52,10 @@ fn encoded(
     rgb_dither: u8,
     encoding: FramebufferEncoding,
 ) -> Bytes2
-    requires { ⌜ (writer .layout .siz ≤ 3) × (0 < writer .layout .width) ⌝ ∗ ⌜ ColorKnown (now marks) pixel ⌝ ∗ ⌜ Loadable (frameOf (now colors) (now coverages) (now marks)) pixel ⌝ }
-    ensures { λ r. ⌜ r ≡ wordBy writer pixel «rgb_dither» encoding (cellAt (frameOf (now (colors .entry)) (now (coverages .entry)) (now (marks .entry))) pixel) ⌝ }
+    requires layout { ⌜ (writer .layout .siz ≤ 3) × (0 < writer .layout .width) ⌝ }
+    requires known { ⌜ ColorKnown (now marks) pixel ⌝ }
+    requires there { ⌜ Loadable (lent colors coverages marks) pixel ⌝ }
+    ensures { λ r. ⌜ r ≡ wordBy writer pixel «rgb_dither» encoding (cellAt (before colors coverages marks) pixel) ⌝ }
 {
     let color = frame::load::color(colors, marks, pixel);
     let coverage = frame::load::known_coverage(coverages, marks, pixel);
@@ -86,7 +89,8 @@ pub fn read_word(
     rgb_dither: u8,
     encoding: FramebufferEncoding,
 ) -> Word
-    ensures { λ r. ⌜ wordMeans r ≡ readAnswer (readArgs pixel fmt siz «rgb_dither» encoding) width height (frameOf (now (colors .entry)) (now (coverages .entry)) (now (marks .entry))) ⌝ ∗ ⌜ Numbered r ⌝ }
+    ensures answer { λ r. ⌜ wordMeans r ≡ readAnswer (readArgs pixel fmt siz «rgb_dither» encoding) width height (before colors coverages marks) ⌝ }
+    ensures number { λ r. ⌜ Numbered r ⌝ }
 {
     let refusal = frame::checks::frame_refusal(colors, coverages, marks, width, height);
     if refusal != 0 {
