@@ -4,9 +4,8 @@ ghost use mathlib.Core.Path.{_≡_};
 ghost use mathlib.Core.Bool.{_&&_};
 ghost use Rattle.vertex.specs.Range.{inRangeX, inRangeY};
 ghost use Rattle.raster.specs.Admitted.{admittedOf};
-ghost use Rattle.probe.specs.Probe.{pixelProbe};
 ghost use Rattle.c_types.specs.Convert.{combinerFrom};
-ghost use Rattle.c_draw.specs.Draws.{geometryFrom, fragmentAnswer};
+ghost use Rattle.c_draw.specs.Draws.{geometryFrom, probeFrom, fragmentAnswer};
 use c_answers::no_color;
 use c_types::Mode;
 use c_types::Parts;
@@ -104,7 +103,7 @@ pub fn pixel(
     y: u32,
     x: u32,
 ) -> FragmentAnswer
-    ensures { λ r. ⌜ r ≡ fragmentAnswer (pixelProbe (mode .antialias) (combinerFrom combiner) cull (geometryFrom geometry) (now (vertices .entry)) (now (present .entry)) (now (indices .entry)) i y x) ⌝ }
+    ensures { λ r. ⌜ r ≡ fragmentAnswer (probeFrom mode combiner cull geometry (now (vertices .entry)) (now (present .entry)) (now (indices .entry)) i y x) ⌝ }
 {
     let k = combiner_of(combiner);
     let g = geometry_of(geometry);

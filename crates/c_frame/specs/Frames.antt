@@ -1,11 +1,29 @@
--- To be believed. The answers of a draw, of a word read and of a run of words as C has them. Definitions only.
-use Rattle.draw.specs.Draw.{DrawAnswer}
-use Rattle.words.specs.Read.{WordAnswer}
+-- To be believed. A draw, a word read and a run of words as C has them: what they are given, and their answers. Definitions only.
+use Prim.Native.Nat.{ℕ}
+use mathlib.Core.Bool.{Bool}
+use lib.Ieee.{Float}
+use Rattle.mode.specs.declared.CombinerUniform.{CombinerUniform}
+use Rattle.raster.specs.declared.Scissor.{Scissor}
+use Rattle.frame.specs.Lent.{Slice}
+use Rattle.draw.specs.Draw.{DrawArgs, DrawAnswer, drawOf}
+use Rattle.words.specs.Read.{ReadArgs, WordAnswer, readArgs}
 use Rattle.runs.specs.Run.{RunAnswer}
+use Rattle.c_types.specs.declared.Mode.{Mode}
+use Rattle.c_types.specs.Convert.{modeOf, encodingOf}
+use Rattle.c_draw.specs.declared.GeometryParts.{GeometryParts}
+use Rattle.c_draw.specs.Draws.{geometryFrom}
 use Rattle.c_answers.specs.declared.Answer.{Answer}
 use Rattle.c_frame.specs.declared.DrawnAnswer.{DrawnAnswer}
 use Rattle.c_frame.specs.declared.RanAnswer.{RanAnswer}
 use Rattle.c_answers.specs.Answers.{twoBytes}
+
+-- the draw and the read that C's values ask for
+abbrev pub drawFrom : Mode → CombinerUniform → Bool → Scissor → GeometryParts → Slice Float → Slice ℕ → Slice ℕ → DrawArgs
+drawFrom mode uniform cull scissor geometry vertices present indices =
+    drawOf (modeOf mode) uniform cull scissor (geometryFrom geometry) vertices present indices
+
+abbrev pub readFrom : ℕ → ℕ → ℕ → ℕ → Bool → ReadArgs
+readFrom pixel fmt siz dither big = readArgs pixel fmt siz dither (encodingOf big)
 
 abbrev pub drawnAnswer : DrawAnswer → DrawnAnswer
 drawnAnswer a = record { number = a .number; pixels = a .pixels }

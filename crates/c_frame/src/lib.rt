@@ -1,14 +1,12 @@
 // The C interface of the frame, over plain values: a draw, a word read and a run of words over three lent slices of colour bytes, coverages and marks. Crate exports gives the calls
 // their C names.
 ghost use mathlib.Core.Path.{_≡_};
-ghost use Rattle.frame.specs.Frame.{frameOf};
-ghost use Rattle.draw.specs.Draw.{drawArgs, drawnMeans, drawAnswer, drawFrame};
+ghost use Rattle.frame.specs.Lent.{old, new, before, after};
+ghost use Rattle.draw.specs.Draw.{drawnMeans, drawAnswer, drawFrame};
 ghost use mathlib.Core.List.{[]};
-ghost use Rattle.words.specs.Read.{readArgs, wordMeans, readAnswer};
+ghost use Rattle.words.specs.Read.{wordMeans, readAnswer};
 ghost use Rattle.runs.specs.Run.{runMeans, runAnswer};
-ghost use Rattle.c_types.specs.Convert.{modeOf, encodingOf};
-ghost use Rattle.c_draw.specs.Draws.{geometryFrom};
-ghost use Rattle.c_frame.specs.Frames.{drawnAnswer, wordAnswer, ranAnswer};
+ghost use Rattle.c_frame.specs.Frames.{drawFrom, readFrom, drawnAnswer, wordAnswer, ranAnswer};
 use c_answers::Answer;
 use c_draw::GeometryParts;
 use c_draw::geometry_of;
@@ -89,7 +87,8 @@ pub fn draw(
     present: &[u8],
     indices: &[u32],
 ) -> DrawnAnswer
-    ensures { λ r. ⌜ r ≡ drawnAnswer (drawAnswer (drawArgs (modeOf mode) uniform cull scissor (geometryFrom geometry) (now (vertices .entry)) (now (present .entry)) (now (indices .entry))) width height (frameOf (now (colors .entry)) (now (coverages .entry)) (now (marks .entry)))) ⌝ ∗ ⌜ frameOf (now (colors .exit)) (now (coverages .exit)) (now (marks .exit)) ≡ drawFrame (drawArgs (modeOf mode) uniform cull scissor (geometryFrom geometry) (now (vertices .entry)) (now (present .entry)) (now (indices .entry))) width height (frameOf (now (colors .entry)) (now (coverages .entry)) (now (marks .entry))) ⌝ }
+    ensures answer { λ r. ⌜ r ≡ drawnAnswer (drawAnswer (drawFrom mode uniform cull scissor geometry vertices present indices) width height (before colors coverages marks)) ⌝ }
+    ensures frame { λ r. ⌜ after colors coverages marks ≡ drawFrame (drawFrom mode uniform cull scissor geometry vertices present indices) width height (before colors coverages marks) ⌝ }
 {
     let m = render_mode(mode);
     let g = geometry_of(geometry);
@@ -123,7 +122,7 @@ pub fn read_word(
     rgb_dither: u8,
     big_endian: bool,
 ) -> Answer
-    ensures { λ r. ⌜ r ≡ wordAnswer (readAnswer (readArgs pixel fmt siz «rgb_dither» (encodingOf «big_endian»)) width height (frameOf (now (colors .entry)) (now (coverages .entry)) (now (marks .entry)))) ⌝ }
+    ensures { λ r. ⌜ r ≡ wordAnswer (readAnswer (readFrom pixel fmt siz «rgb_dither» «big_endian») width height (before colors coverages marks)) ⌝ }
 {
     let order = byte_order(big_endian);
     word(words::read_word(
@@ -154,7 +153,9 @@ pub fn read_words(
     words: &mut [u8],
     numbers: &mut [u8],
 ) -> RanAnswer
-    ensures { λ r. ⌜ r ≡ ranAnswer (runAnswer (readArgs first fmt siz «rgb_dither» (encodingOf «big_endian»)) width height (frameOf (now (colors .entry)) (now (coverages .entry)) (now (marks .entry))) (now (words .entry)) (now (numbers .entry))) ⌝ ∗ ⌜ now (words .exit) ≡ runAnswer (readArgs first fmt siz «rgb_dither» (encodingOf «big_endian»)) width height (frameOf (now (colors .entry)) (now (coverages .entry)) (now (marks .entry))) (now (words .entry)) (now (numbers .entry)) .words ⌝ ∗ ⌜ now (numbers .exit) ≡ runAnswer (readArgs first fmt siz «rgb_dither» (encodingOf «big_endian»)) width height (frameOf (now (colors .entry)) (now (coverages .entry)) (now (marks .entry))) (now (words .entry)) (now (numbers .entry)) .numbers ⌝ }
+    ensures answer { λ r. ⌜ r ≡ ranAnswer (runAnswer (readFrom first fmt siz «rgb_dither» «big_endian») width height (before colors coverages marks) (old words) (old numbers)) ⌝ }
+    ensures words { λ r. ⌜ new words ≡ runAnswer (readFrom first fmt siz «rgb_dither» «big_endian») width height (before colors coverages marks) (old words) (old numbers) .words ⌝ }
+    ensures numbers { λ r. ⌜ new numbers ≡ runAnswer (readFrom first fmt siz «rgb_dither» «big_endian») width height (before colors coverages marks) (old words) (old numbers) .numbers ⌝ }
 {
     let order = byte_order(big_endian);
     let answer = runs::read_words(

@@ -1,12 +1,10 @@
 // The C interface of the frame: a draw, a word read and a run of words over three lent slices of colour bytes, coverages and marks.
 ghost use mathlib.Core.Path.{_≡_};
-ghost use Rattle.frame.specs.Frame.{frameOf};
-ghost use Rattle.draw.specs.Draw.{drawArgs, drawAnswer, drawFrame};
-ghost use Rattle.words.specs.Read.{readArgs, readAnswer};
+ghost use Rattle.frame.specs.Lent.{old, new, before, after};
+ghost use Rattle.draw.specs.Draw.{drawAnswer, drawFrame};
+ghost use Rattle.words.specs.Read.{readAnswer};
 ghost use Rattle.runs.specs.Run.{runAnswer};
-ghost use Rattle.c_types.specs.Convert.{modeOf, encodingOf};
-ghost use Rattle.c_draw.specs.Draws.{geometryFrom};
-ghost use Rattle.c_frame.specs.Frames.{drawnAnswer, wordAnswer, ranAnswer};
+ghost use Rattle.c_frame.specs.Frames.{drawFrom, readFrom, drawnAnswer, wordAnswer, ranAnswer};
 use c_answers::Answer;
 use c_draw::GeometryParts;
 use c_frame::DrawnAnswer;
@@ -31,7 +29,8 @@ pub extern "C" fn wb_draw(
     present: &[u8],
     indices: &[u32],
 ) -> DrawnAnswer
-    ensures { λ r. ⌜ r ≡ drawnAnswer (drawAnswer (drawArgs (modeOf mode) uniform cull scissor (geometryFrom geometry) (now (vertices .entry)) (now (present .entry)) (now (indices .entry))) width height (frameOf (now (colors .entry)) (now (coverages .entry)) (now (marks .entry)))) ⌝ ∗ ⌜ frameOf (now (colors .exit)) (now (coverages .exit)) (now (marks .exit)) ≡ drawFrame (drawArgs (modeOf mode) uniform cull scissor (geometryFrom geometry) (now (vertices .entry)) (now (present .entry)) (now (indices .entry))) width height (frameOf (now (colors .entry)) (now (coverages .entry)) (now (marks .entry))) ⌝ }
+    ensures answer { λ r. ⌜ r ≡ drawnAnswer (drawAnswer (drawFrom mode uniform cull scissor geometry vertices present indices) width height (before colors coverages marks)) ⌝ }
+    ensures frame { λ r. ⌜ after colors coverages marks ≡ drawFrame (drawFrom mode uniform cull scissor geometry vertices present indices) width height (before colors coverages marks) ⌝ }
 {
     c_frame::draw(
         width,
@@ -63,7 +62,7 @@ pub extern "C" fn wb_read_word(
     rgb_dither: u8,
     big_endian: bool,
 ) -> Answer
-    ensures { λ r. ⌜ r ≡ wordAnswer (readAnswer (readArgs pixel fmt siz «rgb_dither» (encodingOf «big_endian»)) width height (frameOf (now (colors .entry)) (now (coverages .entry)) (now (marks .entry)))) ⌝ }
+    ensures { λ r. ⌜ r ≡ wordAnswer (readAnswer (readFrom pixel fmt siz «rgb_dither» «big_endian») width height (before colors coverages marks)) ⌝ }
 {
     c_frame::read_word(
         width,
@@ -94,7 +93,9 @@ pub extern "C" fn wb_read_words(
     words: &mut [u8],
     numbers: &mut [u8],
 ) -> RanAnswer
-    ensures { λ r. ⌜ r ≡ ranAnswer (runAnswer (readArgs first fmt siz «rgb_dither» (encodingOf «big_endian»)) width height (frameOf (now (colors .entry)) (now (coverages .entry)) (now (marks .entry))) (now (words .entry)) (now (numbers .entry))) ⌝ ∗ ⌜ now (words .exit) ≡ runAnswer (readArgs first fmt siz «rgb_dither» (encodingOf «big_endian»)) width height (frameOf (now (colors .entry)) (now (coverages .entry)) (now (marks .entry))) (now (words .entry)) (now (numbers .entry)) .words ⌝ ∗ ⌜ now (numbers .exit) ≡ runAnswer (readArgs first fmt siz «rgb_dither» (encodingOf «big_endian»)) width height (frameOf (now (colors .entry)) (now (coverages .entry)) (now (marks .entry))) (now (words .entry)) (now (numbers .entry)) .numbers ⌝ }
+    ensures answer { λ r. ⌜ r ≡ ranAnswer (runAnswer (readFrom first fmt siz «rgb_dither» «big_endian») width height (before colors coverages marks) (old words) (old numbers)) ⌝ }
+    ensures words { λ r. ⌜ new words ≡ runAnswer (readFrom first fmt siz «rgb_dither» «big_endian») width height (before colors coverages marks) (old words) (old numbers) .words ⌝ }
+    ensures numbers { λ r. ⌜ new numbers ≡ runAnswer (readFrom first fmt siz «rgb_dither» «big_endian») width height (before colors coverages marks) (old words) (old numbers) .numbers ⌝ }
 {
     c_frame::read_words(
         width,
