@@ -30,7 +30,7 @@ use Rattle.draw.proofs.Frames.{pixelsOf, plan-marked}
 use Rattle.runs.specs.Run.{readAt, RunAnswer, runBy, runAnswer}
 use Rattle.runs.proofs.Answers.{answers-same}
 use Rattle.words.specs.Read.{ReadArgs, writerOf, wordRefusal, readRefusal, wordOf, wordOr, readAnswer}
-use Rattle.secrecy.specs.Runs.{Call, Answer, Said, answerTo, frameAfter, answers, after, verdictAt, verdicts, saidByPlan, saidBy, said, lastAt, knownAt, Secret}
+use Rattle.secrecy.specs.Runs.{Call, Answer, Said, answerTo, frameAfter, answers, frameAfterAll, verdictAt, verdicts, saidByPlan, saidBy, said, lastAt, knownAt, Secret}
 use Rattle.frame.specs.Alike.{Alike}
 use Rattle.secrecy.proofs.Alike.{list-alike}
 use Rattle.frame.proofs.Alike.{refusal-same}
@@ -182,11 +182,11 @@ module _ (w h : ℕ) where
       ap₂ (λ (x : Answer) (xs : List Answer). x ∷ xs) (keeps o .same f g a)
       (same-answers os (frameAfter w h o f) (frameAfter w h o g) (keeps o .alike f g a))
 
-  alike-after : (os : List Call) (f g : Frame) → Alike f g → Alike (after w h os f) (after w h os g)
+  alike-after : (os : List Call) (f g : Frame) → Alike f g → Alike (frameAfterAll w h os f) (frameAfterAll w h os g)
   alike-after [] f g a = a
   alike-after (o ∷ os) f g a = alike-after os (frameAfter w h o f) (frameAfter w h o g) (keeps o .alike f g a)
 
-  marked-after : (os : List Call) (f : Frame) (p : ℕ) → knownAt p (after w h os f) ≡ lastAt p (said w h os f) (knownAt p f)
+  marked-after : (os : List Call) (f : Frame) (p : ℕ) → knownAt p (frameAfterAll w h os f) ≡ lastAt p (said w h os f) (knownAt p f)
   marked-after [] f p = refl
   marked-after (o ∷ os) f p =
       marked-after os (frameAfter w h o f) p

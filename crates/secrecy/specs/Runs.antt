@@ -56,9 +56,9 @@ module _ (w h : ℕ) where
   answers (o ∷ os) f = answerTo o f ∷ answers os (frameAfter o f)
 
   -- the frame after a list
-  abbrev pub after : List Call → Frame → Frame
-  after [] f = f
-  after (o ∷ os) f = after os (frameAfter o f)
+  abbrev pub frameAfterAll : List Call → Frame → Frame
+  frameAfterAll [] f = f
+  frameAfterAll (o ∷ os) f = frameAfterAll os (frameAfter o f)
 
 -- ---- what F1 and F2 said
 
@@ -102,6 +102,6 @@ knownAt p f = colorMarked (getD (f .marks) p 0)
 -- on it said, or, where there is none, as at the start
 pub record Secret (w h : ℕ) (os : List Call) (f g : Frame) : Type 0 where
   pub same : answers w h os f ≡ answers w h os g
-  pub alike : Alike (after w h os f) (after w h os g)
-  pub marked : (p : ℕ) → knownAt p (after w h os f) ≡ lastAt p (said w h os f) (knownAt p f)
-  pub marked′ : (p : ℕ) → knownAt p (after w h os g) ≡ lastAt p (said w h os g) (knownAt p g)
+  pub alike : Alike (frameAfterAll w h os f) (frameAfterAll w h os g)
+  pub marked : (p : ℕ) → knownAt p (frameAfterAll w h os f) ≡ lastAt p (said w h os f) (knownAt p f)
+  pub marked′ : (p : ℕ) → knownAt p (frameAfterAll w h os g) ≡ lastAt p (said w h os g) (knownAt p g)
