@@ -3,17 +3,19 @@
 use mathlib.Core.Path.{_≡_, refl, sym, ap, _∙_}
 use mathlib.Core.Bool.{Bool, true, false, not, _&&_, _||_}
 use mathlib.Core.List.{List, [], _∷_}
-use Prim.Native.Nat.{ℕ, zero, suc, _+_, _-_, _*_, _%_, _≤_, _<_}
+use Prim.Native.Nat.{ℕ, zero, suc, _+_, _-_, _*_, _/_, _%_, _^_, _≤_, _<_}
 use native.Mathlib.Numerals.{add-one}
 use native.Mathlib.Omega.{arith}
-use borrow.Author.Tests.{leb-true, le-leb, lt-leb, eqb-true}
+use borrow.Author.Tests.{leb-true, leb-false, le-leb, lt-leb, eqb-true}
+use lib.Bits.{bitAnd, bitOr, or-lt, or-add-and, or-mod, and-le-l, and-le-r, and-mod, and-shr}
 use lib.Dec.{leb, eqb}
+use lib.Pow.{pow-pos}
 use lib.ListN.{length, getD, take, drop, drop-of-length-le}
 use lib.Seq.{drop-cons, drop-drop}
 use Rattle.cell.specs.Marks.{highestMark, coverageMarked}
 use Rattle.frame.specs.Frame.{Frame}
 use Rattle.frame.specs.Checks.{sizeOk, sizesOk, lengthsOk, markOk, marksOk, frameRefusal}
-use Rattle.frame.specs.Told.{every, atMost}
+use Rattle.frame.specs.Told.{every, atMost, coverageUnmarked}
 use Rattle.frame.proofs.Fits.{both-left, both-right, pixels-le}
 
 together : (a b c : Bool) → ((a && b) && c) ≡ (a && (b && c))
@@ -32,15 +34,21 @@ module _ (ok : Bool) {rest all : Bool} where
       alone true = refl
       alone false = refl
 
--- ---- the rest of one list
-module _ (test : ℕ → Bool) (l : List ℕ) {i : ℕ} where
-  pub every-more : i < length l → every test (drop i l) ≡ (test (getD l i 0) && every test (drop (i + 1) l))
-  unfolding every
-  every-more h = rw (add-one, drop-cons l i 0)
+-- ---- one list: what was found of the numbers before i, and the rest
+module _ (test : ℕ → Bool) (l : List ℕ) where
+  abbrev pub Decides : ℕ → Bool → Type 0
+  Decides i ok = (ok && every test (drop i l)) ≡ every test l
 
-  pub every-none : length l ≤ i → true ≡ every test (drop i l)
-  unfolding every
-  every-none h = rw (drop-of-length-le l h)
+  module _ {i : ℕ} (ok : Bool) where
+    pub decides-next : {then : Bool} → then ≡ (ok && test (getD l i 0)) → i < length l → Decides i ok → Decides (i + 1) then
+    unfolding every
+    decides-next e h inv =
+        let next = every test (drop (i + 1) l) in
+        (λ j. e j && next) ∙ found-next ok next {test = test (getD l i 0)} refl (rw (add-one, drop-cons l i 0)) inv
+
+    pub decides-done : length l ≤ i → Decides i ok → ok ≡ every test l
+    unfolding every
+    decides-done h inv = found-done ok (rw (drop-of-length-le l h)) inv
 
 pub every-at : (test : ℕ → Bool) (l : List ℕ) (i : ℕ) → every test l ≡ true → i < length l → test (getD l i 0) ≡ true
 unfolding every
@@ -79,6 +87,52 @@ module _ (cs ms : List ℕ) where
       let k : s + (e - s) ≡ e = omega arith in
       marks-parts (e - s) (drop s cs) (drop s ms) ∙ simp (drop-drop, k)
 
+-- ---- marks put together: a question to two marks, put to the bits that one of them has or to those that both have
+just-if-both : (x a b : Bool) → (a ≡ true → b ≡ true → x ≡ true) → (a ≡ false → x ≡ false) → (b ≡ false → x ≡ false) → x ≡ (a && b)
+just-if-both x true true p q r = p refl refl
+just-if-both x true false p q r = r refl
+just-if-both x false b p q r = q refl
+
+module _ (a b : ℕ) where
+  or-below : (k : ℕ) → leb (bitOr a b) (2 ^ k - 1) ≡ (leb a (2 ^ k - 1) && leb b (2 ^ k - 1))
+  or-below k =
+      let t = 2 ^ k - 1 in
+      just-if-both (leb (bitOr a b) t) (leb a t) (leb b t)
+      (λ p q. le-leb _ t (omega (arith, pow-pos k, or-lt k a b (omega (arith, pow-pos k, leb-true a t p)) (omega (arith, pow-pos k, leb-true b t q)))))
+      (λ p. lt-leb _ t (omega (arith, leb-false a t p, or-add-and a b, and-le-r a b)))
+      (λ q. lt-leb _ t (omega (arith, leb-false b t q, or-add-and a b, and-le-l a b)))
+
+  -- two mark bits
+  pub or-low : atMost highestMark (bitOr a b) ≡ (atMost highestMark a && atMost highestMark b)
+  or-low = or-below 2
+
+pub or-unmarked : (a b : ℕ) → coverageUnmarked (bitOr a b) ≡ (coverageUnmarked a && coverageUnmarked b)
+or-unmarked a b =
+    (λ i. not (leb 2 (or-mod a b 2 i))) ∙ under (bitOr (a % 4) (b % 4)) ∙ or-below (a % 4) (b % 4) 1 ∙ (λ i. sym (under (a % 4)) i && sym (under (b % 4)) i)
+  where
+    go : (n : ℕ) (t : Bool) → leb 2 n ≡ t → not t ≡ leb n 1
+    go n true p = sym (lt-leb n 1 (leb-true 2 n p))
+    go n false p = sym (le-leb n 1 (omega (arith, leb-false 2 n p)))
+
+    under : (n : ℕ) → not (leb 2 n) ≡ leb n 1
+    under n = go n (leb 2 n) refl
+
+pub and-marked : (a b : ℕ) → coverageMarked (bitAnd a b) ≡ (coverageMarked a && coverageMarked b)
+and-marked a b = (λ i. leb 2 (and-mod a b 2 i)) ∙ go (a % 4) (b % 4) (omega arith) (omega arith)
+  where
+    go : (r s : ℕ) → r < 4 → s < 4 → leb 2 (bitAnd r s) ≡ (leb 2 r && leb 2 s)
+    go r s h k =
+        just-if-both (leb 2 (bitAnd r s)) (leb 2 r) (leb 2 s)
+        (λ p q. le-leb 2 (bitAnd r s) (omega (arith, halves (leb-true 2 r p) (leb-true 2 s q))))
+        (λ p. lt-leb 2 (bitAnd r s) (omega (arith, leb-false 2 r p, and-le-l r s)))
+        (λ q. lt-leb 2 (bitAnd r s) (omega (arith, leb-false 2 s q, and-le-r r s)))
+      where
+        halves : 2 ≤ r → 2 ≤ s → bitAnd r s / 2 ≡ 1
+        halves x y =
+            let u : r / 2 ≡ 1 = omega arith in
+            let v : s / 2 ≡ 1 = omega arith in
+            and-shr r s 1 ∙ (λ i. bitAnd (u i) (v i))
+
 -- ---- what the marks alone say of number 3
 pub marks-high : (cs ms : List ℕ) → length cs ≡ length ms → every (atMost highestMark) ms ≡ false → false ≡ marksOk cs ms
 unfolding every marksOk markOk
@@ -92,15 +146,16 @@ marks-high (c ∷ cs) (m ∷ ms) e p = go (leb m highestMark) (not (coverageMark
     go true false r s h q = refl
     go true true r s h q = h q
 
-pub marks-unmarked : (cs ms : List ℕ) → every (atMost 1) ms ≡ true → true ≡ marksOk cs ms
+pub marks-unmarked : (cs ms : List ℕ) → every (atMost highestMark) ms ≡ true → every coverageUnmarked ms ≡ true → true ≡ marksOk cs ms
 unfolding every marksOk markOk
-marks-unmarked [] ms p = refl
-marks-unmarked (c ∷ cs) [] p = refl
-marks-unmarked (c ∷ cs) (m ∷ ms) p =
-    let l : m ≤ 1 = leb-true m 1 (both-left (leb m 1) (every (atMost 1) ms) p) in
-    let a : leb m highestMark ≡ true = le-leb m highestMark (omega arith) in
-    let b : coverageMarked m ≡ false = lt-leb 2 (m % 4) (omega arith) in
-    λ i. (sym a i && (not (sym b i) || leb c 7)) && marks-unmarked cs ms (both-right (leb m 1) (every (atMost 1) ms) p) i
+marks-unmarked [] ms p q = refl
+marks-unmarked (c ∷ cs) [] p q = refl
+marks-unmarked (c ∷ cs) (m ∷ ms) p q =
+    let a = leb m highestMark in
+    let b = coverageUnmarked m in
+    let r = every (atMost highestMark) ms in
+    let s = every coverageUnmarked ms in
+    λ i. (sym (both-left a r p) i && (sym (both-left b s q) i || leb c 7)) && marks-unmarked cs ms (both-right a r p) (both-right b s q) i
 
 pub marks-marked :
     (cs ms : List ℕ) → length cs ≡ length ms → every (atMost highestMark) ms ≡ true → every coverageMarked ms ≡ true → every (atMost 7) cs ≡ marksOk cs ms

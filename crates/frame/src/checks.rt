@@ -8,15 +8,13 @@ ghost use Rattle.cell.specs.Marks.{highestMark, coverageMarked};
 ghost use Rattle.frame.specs.Lent.{before};
 ghost use Rattle.frame.specs.Loads.{CoverageThere};
 ghost use Rattle.frame.specs.Checks.{sizeOk, sizesOk, markOk, marksOk, frameRefusal};
-ghost use Rattle.frame.specs.Told.{every, atMost, Tells};
+ghost use Rattle.frame.specs.Told.{every, atMost, Sees, Tells};
 use crate::load;
 
 const SIZE: u32 = 1024;
 
-// The highest mark, and the highest that marks no coverage.
+// The highest mark: every mark bit.
 const MARK: u8 = 3;
-
-const COLOR_MARK: u8 = 1;
 
 const COVERAGE: u8 = 7;
 
@@ -28,6 +26,13 @@ pub enum Told {
     Good,
     Bad,
     Mixed,
+}
+
+// What marks say: none is too high, none marks a coverage, each marks one.
+struct Seen {
+    low: bool,
+    unmarked: bool,
+    marked: bool,
 }
 
 fn size_ok(n: u32) -> bool
@@ -61,36 +66,27 @@ fn lengths_ok(colors: usize, coverages: usize, marks: usize, pixels: usize) -> b
     marks == pixels
 }
 
-// Every mark is looked at, without a branch, so that the loop has no other exit and many are taken at a time. So it is in the next two.
-fn all_at_most(marks: &[u8], most: u8) -> bool
-    ensures { λ r. ⌜ r ≡ every (atMost most) (now (marks .entry)) ⌝ }
+// One pass without a branch, so that the loop has no other exit and many marks are taken at a time. It puts bits together, and what they say is asked once, at the end.
+fn see(marks: &[u8]) -> Seen
+    ensures { λ r. ⌜ Sees (now (marks .entry)) r ⌝ }
 {
-    let mut ok = true;
+    let mut any: u8 = 0;
+    let mut all: u8 = 255;
     let mut i = 0;
     while i < marks.len() {
         let mark = marks[i];
-        let small = mark <= most;
-        ok = ok & small;
+        any = any | mark;
+        all = all & mark;
         i += 1;
     }
-    ok
-}
-
-fn all_marked(marks: &[u8]) -> bool
-    ensures { λ r. ⌜ r ≡ every coverageMarked (now (marks .entry)) ⌝ }
-{
-    let mut all = true;
-    let mut i = 0;
-    while i < marks.len() {
-        let mark = marks[i];
-        let marked = cell::coverage_marked(mark);
-        all = all & marked;
-        i += 1;
+    Seen {
+        low: any <= MARK,
+        unmarked: !cell::coverage_marked(any),
+        marked: cell::coverage_marked(all),
     }
-    all
 }
 
-// The one pass over all coverages, where every one is marked.
+// The one pass over all coverages, where every one is marked. It has no branch either.
 fn all_low(coverages: &[u8], marks: &[u8]) -> bool
     requires { ⌜ (length (now coverages) ≡ length (now marks)) × (every coverageMarked (now marks) ≡ true) ⌝ }
     ensures { λ r. ⌜ r ≡ every (atMost 7) (now (coverages .entry)) ⌝ }
@@ -130,18 +126,19 @@ fn mixed_ok(coverages: &[u8], marks: &[u8]) -> bool
     ok
 }
 
-// The marks alone say whether no coverage may be loaded, every one, or only some. Each is a pass without a branch.
+// The marks alone say whether no coverage may be loaded, every one, or only some.
 fn look(coverages: &[u8], marks: &[u8]) -> Told
     requires { ⌜ length (now coverages) ≡ length (now marks) ⌝ }
     ensures { λ r. ⌜ Tells (now (coverages .entry)) (now (marks .entry)) r ⌝ }
 {
-    if all_at_most(marks, COLOR_MARK) {
-        return Told::Good;
-    }
-    if !all_at_most(marks, MARK) {
+    let seen = see(marks);
+    if !seen.low {
         return Told::Bad;
     }
-    if !all_marked(marks) {
+    if seen.unmarked {
+        return Told::Good;
+    }
+    if !seen.marked {
         return Told::Mixed;
     }
     if all_low(coverages, marks) {

@@ -1,17 +1,17 @@
 -- `all_low` meets its contract: what was found and the coverages from i on decide. Every mark says that its coverage may be loaded.
-use mathlib.Core.Path.{_≡_, refl, ap}
+use mathlib.Core.Path.{refl}
 use mathlib.Core.Bool.{_&&_}
 use Prim.Native.Nat.{_-_}
 use native.Mathlib.Omega.{arith}
-use lib.ListN.{length, drop}
+use lib.ListN.{length}
 use Rattle.cell.specs.Marks.{coverageMarked}
-use Rattle.frame.specs.Told.{every, atMost}
-use Rattle.frame.proofs.Refusals.{found-next, found-done, every-at, every-more, every-none}
+use Rattle.frame.specs.Told.{atMost}
+use Rattle.frame.proofs.Refusals.{Decides, decides-next, decides-done, every-at}
 use Rattle.frame.proofs.checks.all_low.Statement.{statement}
 use Rattle.frame.proofs.checks.all_low.Tie as tie
 
 abbrev Inv-loop : tie.InvT-loop
-Inv-loop coverages marks ok₀ i₀ ok i = (ok && every (atMost 7) (drop i coverages)) ≡ every (atMost 7) coverages
+Inv-loop coverages marks ok₀ i₀ ok i = Decides (atMost 7) coverages i ok
 
 abbrev μ-loop : tie.MeasureT-loop
 μ-loop coverages marks ok₀ i₀ ok i = length coverages - i
@@ -31,10 +31,10 @@ loop-less c = omega arith
 loop-again : tie.Need-loop-again Inv-loop μ-loop
 loop-again c =
     let l = c .before .before in
-    found-next (l .loop .ok) _ (ap (atMost 7) (c .coverage .ensures)) (every-more (atMost 7) _ (c .before .loop-test .taken)) (l .loop .inv)
+    decides-next (atMost 7) _ (l .loop .ok) (λ j. l .loop .ok && atMost 7 (c .coverage .ensures j)) (c .before .loop-test .taken) (l .loop .inv)
 
 returns : tie.Need-returns Inv-loop μ-loop
-returns c = found-done (c .before .loop .ok) (every-none (atMost 7) _ (c .loop-test .left)) (c .before .loop .inv)
+returns c = decides-done (atMost 7) _ (c .before .loop .ok) (c .loop-test .left) (c .before .loop .inv)
 
 pub all-low-spec : {M : Type 1} → statement M
 all-low-spec =
