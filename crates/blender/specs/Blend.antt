@@ -11,7 +11,8 @@ use Rattle.mode.specs.declared.RenderMode.{RenderMode}
 use Rattle.mode.specs.declared.Rgba.{Rgba}
 use Rattle.combiner.specs.declared.Combiner.{Combiner}
 use Rattle.blender.specs.declared.Bytes.{Bytes}
-use Rattle.blender.specs.declared.Coverage.the-variants.{Known}
+use Rattle.blender.specs.declared.Coverage.{Coverage}
+use Rattle.blender.specs.declared.Coverage.the-variants.{Unknown, Known}
 use Rattle.blender.specs.Mux.{muxOf, pick}
 use Rattle.blender.specs.Known.{alone}
 
@@ -59,3 +60,8 @@ blendOf mode combiner rgba memory shade n c =
     bytesOf (alone mode (rgba .a) n (Known c)) (mode .«force_blend»)
     (sourceOf (x .p) combiner rgba memory) a (sourceOf (x .m) combiner rgba memory) (factorB (x .b) a c)
     (rgba .a)
+
+-- a coverage that is not known is passed as 0
+abbrev pub orZero : Coverage → ℕ
+orZero Unknown = 0
+orZero (Known c) = c

@@ -4,3 +4,4 @@ pub mod Coverage
 pub mod Known
 pub mod Blend
 pub mod Layer
+pub mod Joined

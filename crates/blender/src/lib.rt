@@ -8,7 +8,8 @@ ghost use Rattle.blender.specs.Mux.{muxOf};
 ghost use Rattle.blender.specs.Coverage.{overflows, blends, clampOf, destinationOf};
 ghost use Rattle.blender.specs.Known.{reject, alone, missing, anyCoverage, colorKnown};
 ghost use Rattle.blender.specs.Layer.{opaqueOf, ownOf};
-ghost use Rattle.blender.specs.Blend.{sourceOf, factorA, factorB, divisorOf, mixedOf, bytesOf, blendOf};
+ghost use Rattle.blender.specs.Blend.{sourceOf, factorA, factorB, divisorOf, mixedOf, bytesOf, blendOf, orZero};
+ghost use Rattle.blender.specs.Joined.{isKnown, orZeros, joined};
 
 pub mod layer; // pixels of one colour
 
@@ -16,6 +17,25 @@ pub mod layer; // pixels of one colour
 pub enum Coverage {
     Unknown,
     Known(u8),
+}
+
+// An emitted pixel: its combined colour, its shade alpha and its number of samples.
+pub struct Source {
+    pub color: Rgba,
+    pub shade_alpha: f32,
+    pub count: u8,
+}
+
+// A pixel's colour in memory, or that it is not known.
+pub enum Memory {
+    Unknown,
+    Known(Rgba),
+}
+
+// What is stored of a pixel: red, green, blue and alpha, or that it cannot be told.
+pub enum Blended {
+    Fallback,
+    Stored(u8, u8, u8, u8),
 }
 
 // A colour as it is stored.
@@ -211,7 +231,7 @@ fn copy(x: Rgba) -> Rgba
 }
 
 // The colour that P or M names.
-fn source(selector: u32, combiner: Combiner, rgba: Rgba, memory: Rgba) -> Rgba
+fn input(selector: u32, combiner: Combiner, rgba: Rgba, memory: Rgba) -> Rgba
     ensures { λ r. ⌜ r ≡ sourceOf selector combiner rgba memory ⌝ }
 {
     match selector {
@@ -273,7 +293,7 @@ pub fn own_color(mode: RenderMode, combiner: Combiner, rgba: Rgba) -> Rgba
     ensures { λ r. ⌜ r ≡ ownOf mode combiner rgba ⌝ }
 {
     let mux = decode_mux(mode.blender_mux);
-    source(mux.p, combiner, rgba, rgba)
+    input(mux.p, combiner, rgba, rgba)
 }
 
 // The three mixed channels and the pixel's alpha, as bytes.
@@ -301,10 +321,71 @@ pub fn blend(
     ensures { λ r. ⌜ r ≡ blendOf mode combiner rgba memory «shade_alpha» count coverage ⌝ }
 {
     let mux = decode_mux(mode.blender_mux);
-    let p = source(mux.p, combiner, rgba, memory);
-    let m = source(mux.m, combiner, rgba, memory);
+    let p = input(mux.p, combiner, rgba, memory);
+    let m = input(mux.m, combiner, rgba, memory);
     let a = factor_a(mux.a, rgba.a, combiner.fog.a, shade_alpha);
     let b = factor_b(mux.b, a, coverage);
     let stands = stands_alone(mode, rgba.a, count, Coverage::Known(coverage));
     in_bytes(stands, mode.force_blend, p, a, m, b, rgba.a)
+}
+
+fn is_known(memory: Memory) -> bool
+    ensures { λ r. ⌜ r ≡ isKnown memory ⌝ }
+{
+    match memory {
+        Memory::Unknown => false,
+        Memory::Known(_) => true,
+    }
+}
+
+fn color_or_zeros(memory: Memory) -> Rgba
+    ensures { λ r. ⌜ r ≡ orZeros memory ⌝ }
+{
+    match memory {
+        Memory::Unknown => Rgba {
+            r: 0.0,
+            g: 0.0,
+            b: 0.0,
+            a: 0.0,
+        },
+        Memory::Known(color) => color,
+    }
+}
+
+fn coverage_or_zero(coverage: Coverage) -> u8
+    ensures { λ r. ⌜ r ≡ orZero coverage ⌝ }
+{
+    match coverage {
+        Coverage::Unknown => 0,
+        Coverage::Known(c) => c,
+    }
+}
+
+// `color_known` and `blend` of a pixel that is handed over once.
+pub fn blend_known(
+    mode: RenderMode,
+    combiner: Combiner,
+    source: Source,
+    coverage: Coverage,
+    memory: Memory,
+) -> Blended
+    ensures { λ r. ⌜ r ≡ joined mode combiner source coverage memory ⌝ }
+{
+    let color = source.color;
+    let known = is_known(memory);
+    if !color_known(mode, color.a, source.count, coverage, known) {
+        return Blended::Fallback;
+    }
+    let under = color_or_zeros(memory);
+    let samples = coverage_or_zero(coverage);
+    let bytes = blend(
+        mode,
+        combiner,
+        color,
+        under,
+        source.shade_alpha,
+        source.count,
+        samples,
+    );
+    Blended::Stored(bytes.r, bytes.g, bytes.b, bytes.a)
 }

@@ -1,4 +1,4 @@
--- What several proofs share, and the laws of the rules that other crates' proofs cite.
-pub mod Fields
-pub mod Own
+-- The proofs of crate `cell` that other crates cite.
 pub mod Alike
+pub mod Colorings
+pub mod Fulls

@@ -1,6 +1,6 @@
 -- To be believed. Mark bytes: mark 1 says that a pixel's colour is known, mark 2 that its coverage is; a mark byte is their sum. Definitions only.
 -- Source: docs/RULES.md, The frame. Bytes above 3 are read the same way: odd, and the remainder by 4.
-use Prim.Native.Nat.{ℕ, _%_}
+use Prim.Native.Nat.{ℕ, _+_, _%_}
 use mathlib.Core.Bool.{Bool, true, false, cond}
 use lib.Dec.{leb, eqb}
 use Rattle.blender.specs.declared.Coverage.{Coverage}
@@ -24,6 +24,6 @@ abbrev pub unknown : Coverage → Bool
 unknown Unknown = true
 unknown (Known c) = false
 
--- the mark byte of a colour that is known or not and of a coverage
-unfoldable pub markOf : Bool → Coverage → ℕ
-markOf known coverage = cond known (cond (unknown coverage) 1 3) (cond (unknown coverage) 0 2)
+-- the mark byte of a colour and of a coverage, each known or not
+unfoldable pub markOf : Bool → Bool → ℕ
+markOf known covered = cond known 1 0 + cond covered 2 0

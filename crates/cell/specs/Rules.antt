@@ -14,10 +14,10 @@ use Rattle.blender.specs.declared.Coverage.{Coverage}
 use Rattle.blender.specs.declared.Coverage.the-variants.{Unknown, Known}
 use Rattle.blender.specs.Coverage.{destinationOf}
 use Rattle.blender.specs.Known.{reject, colorKnown}
-use Rattle.blender.specs.Blend.{blendOf}
+use Rattle.blender.specs.Blend.{orZero, blendOf}
 use Rattle.cell.specs.declared.Cell.{Cell}
 use Rattle.cell.specs.declared.Colors.{Colors}
-use Rattle.cell.specs.declared.Source.{Source}
+use Rattle.blender.specs.declared.Source.{Source}
 use Rattle.cell.specs.Marks.{colorMarked, coverageOf, unknown, markOf}
 
 -- F1: `color_known`, asked with the pixel's alpha, its count, the coverage if it is marked, and whether the colour is marked
@@ -29,10 +29,6 @@ unfoldable pub ruleF2 : RenderMode → Source → Coverage → Bool
 ruleF2 mode s coverage =
     unknown coverage && mode .antialias && not (mode .«force_blend») && not (reject mode (s .color .a))
 
--- F1 and F2: whether the colour is known after the pixel
-unfoldable pub verdictOf : RenderMode → Source → Coverage → Bool → Bool
-verdictOf mode s coverage marked = ruleF1 mode s coverage marked && not (ruleF2 mode s coverage)
-
 -- a byte as a colour: byte / 255.0, rounded once
 abbrev pub unit : ℕ → Float
 unit byte = div binary32 (ofInt binary32 (pos byte)) f255
@@ -41,11 +37,6 @@ unit byte = div binary32 (ofInt binary32 (pos byte)) f255
 unfoldable pub memoryOf : Bool → Cell → Rgba
 memoryOf marked x =
     cond marked (record { r = unit (x .red); g = unit (x .green); b = unit (x .blue); a = f0 }) (record { r = f0; g = f0; b = f0; a = f0 })
-
--- an unmarked coverage is passed as 0
-abbrev pub orZero : Coverage → ℕ
-orZero Unknown = 0
-orZero (Known c) = c
 
 -- F3: on yes, the first three bytes of `blend`
 unfoldable pub ruleF3 : RenderMode → Combiner → Source → Coverage → Rgba → Colors
@@ -73,18 +64,35 @@ abbrev pub coverageByte : Coverage → ℕ → ℕ
 coverageByte Unknown old = old
 coverageByte (Known c) old = c
 
--- the five rules together: F3 and mark 1 on yes, F4 and no mark 1 on no, and F5
-unfoldable pub cellStep : RenderMode → Combiner → Source → Cell → Cell
-cellStep mode k s x =
-    let coverage = coverageOf (x .mark) (x .coverage) in
-    let marked = colorMarked (x .mark) in
-    let yes = verdictOf mode s coverage marked in
-    let colors = cond yes (ruleF3 mode k s coverage (memoryOf marked x)) (ruleF4 x) in
-    let after = ruleF5 mode (s .count) coverage in
+-- ---- what the rules say of a pixel's place
+
+-- what is known of the coverage there
+abbrev pub coverageAt : Cell → Coverage
+coverageAt x = coverageOf (x .mark) (x .coverage)
+
+-- whether the colour is known after the pixel: F1 says yes, and F2 does not doubt it
+unfoldable pub knownAfter : RenderMode → Source → Cell → Bool
+knownAfter mode s x = ruleF1 mode s (coverageAt x) (colorMarked (x .mark)) && not (ruleF2 mode s (coverageAt x))
+
+-- the colours after it: F3 on yes, F4 on no
+unfoldable pub colorsAfter : RenderMode → Combiner → Source → Cell → Colors
+colorsAfter mode k s x = cond (knownAfter mode s x) (ruleF3 mode k s (coverageAt x) (memoryOf (colorMarked (x .mark)) x)) (ruleF4 x)
+
+-- the coverage after it: F5
+unfoldable pub coverageAfter : RenderMode → Source → Cell → Coverage
+coverageAfter mode s x = ruleF5 mode (s .count) (coverageAt x)
+
+-- a pixel of which this much is known: its mark says so, and a coverage that is not known keeps the byte that stood there
+unfoldable pub assembled : Bool → Colors → Coverage → ℕ → Cell
+assembled known colors coverage old =
     record {
       red = colors .red;
       green = colors .green;
       blue = colors .blue;
-      coverage = coverageByte after (x .coverage);
-      mark = markOf yes after;
+      coverage = coverageByte coverage old;
+      mark = markOf known (not (unknown coverage));
     }
+
+-- the five rules together
+unfoldable pub cellStep : RenderMode → Combiner → Source → Cell → Cell
+cellStep mode k s x = assembled (knownAfter mode s x) (colorsAfter mode k s x) (coverageAfter mode s x) (x .coverage)

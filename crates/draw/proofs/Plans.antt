@@ -29,7 +29,7 @@ use Rattle.paint.specs.Pixel.{Drew, Room}
 use Rattle.frame.specs.Checks.{frameRefusal, orElse}
 use Rattle.draw.specs.Checks.{scissorOk, flagsOk, inputsOk, entryRefusal}
 use Rattle.mixer.proofs.Mixes.{new-mixes}
-use Rattle.paint.specs.Pen.{Mixed}
+use Rattle.paint.specs.Paint.{Mixed}
 use Rattle.draw.specs.Draw.{DrawArgs, Plan, emittedBy, admittedPlan, madePlan, refuseOr, planOf, drawnMeans, Numbered, answerBy, frameBy, drawAnswer, drawFrame}
 use Rattle.draw.specs.Answered.{planBy}
 use Rattle.frame.proofs.Fits.{accepted}

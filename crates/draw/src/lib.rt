@@ -1,14 +1,6 @@
 // A draw over the lent frame (docs/RULES.md, A draw). What it is turned away for is checked before anything is written.
 ghost use mathlib.Core.Path.{_≡_};
-ghost use mathlib.Core.Bool.{true};
-ghost use Prim.Native.Nat.{_≤_};
-ghost use lib.ListN.{length};
-ghost use Rattle.raster.specs.Admitted.{admittedOf};
-ghost use Rattle.raster.specs.Area.{Sized};
-ghost use Rattle.raster.specs.Emitted.{geometryEmits};
-ghost use Rattle.frame.specs.Lent.{old, lent, before, after};
-ghost use Rattle.paint.specs.Pixel.{DrewOn, Room};
-ghost use Rattle.paint.specs.Pen.{Mixed};
+ghost use Rattle.frame.specs.Lent.{before, after};
 ghost use Rattle.draw.specs.Draw.{drawOf, drawnMeans, drawAnswer, drawFrame, Numbered};
 ghost use Rattle.draw.specs.Answered.{Planned};
 use combiner::Combiner;
@@ -17,7 +9,6 @@ use mode::CombinerUniform;
 use mode::RenderMode;
 use raster::Geometry;
 use raster::Scissor;
-use rectangle::Sides;
 
 mod checks; // numbers 4 and 5
 
@@ -72,56 +63,6 @@ fn accept(
     Accepted::With(combiner)
 }
 
-// The pixels of an accepted draw, and their count.
-fn draw_geometry(
-    colors: &mut [u8],
-    coverages: &mut [u8],
-    marks: &mut [u8],
-    mode: RenderMode,
-    combiner: Combiner,
-    cull: bool,
-    scissor: Scissor,
-    width: u32,
-    height: u32,
-    geometry: Geometry,
-    vertices: &[f32],
-    present: &[u8],
-    indices: &[u32],
-) -> u64
-    requires few { ⌜ (length (now indices) ≤ 12288) × Mixed combiner ⌝ }
-    requires admitted { ⌜ admittedOf combiner geometry (now vertices) (now present) (now indices) ≡ true ⌝ }
-    requires sized { ⌜ Sized scissor width height ⌝ }
-    requires room { ⌜ Room width height (lent colors coverages marks) ⌝ }
-    ensures drew { λ r. ⌜ DrewOn mode combiner (geometryEmits mode combiner cull scissor width height (old vertices) (old present) (old indices) geometry) colors coverages marks r ⌝ }
-{
-    let pen = paint::pen::pen_of(mode, combiner);
-    match geometry {
-        Geometry::Nothing => 0,
-        Geometry::Rectangle(left, top, right, bottom) => {
-            let sides = Sides {
-                left,
-                top,
-                right,
-                bottom,
-            };
-            rectangles::draw_rectangle(colors, coverages, marks, pen, scissor, width, height, sides)
-        }
-        Geometry::Triangles => triangles::draw_triangles(
-            colors,
-            coverages,
-            marks,
-            pen,
-            cull,
-            scissor,
-            width,
-            height,
-            vertices,
-            present,
-            indices,
-        ),
-    }
-}
-
 // A draw: the pixels that it emits, one after the other, and their count; or the first of numbers 1 to 7 that holds.
 pub fn draw(
     width: u32,
@@ -158,7 +99,7 @@ pub fn draw(
         indices,
     ) {
         Accepted::Refused(number) => Drawn::Refused(number),
-        Accepted::With(combiner) => Drawn::Emitted(draw_geometry(
+        Accepted::With(combiner) => Drawn::Emitted(rasterize::rasterize(
             colors,
             coverages,
             marks,

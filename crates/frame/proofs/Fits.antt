@@ -11,7 +11,7 @@ use lib.Dec.{leb, eqb}
 use lib.ListN.{length, getD, set, length-set}
 use Rattle.cell.specs.declared.Cell.{Cell}
 use Rattle.cell.specs.Marks.{highestMark, coverageMarked, coverageOf}
-use Rattle.cell.specs.Rules.{orZero}
+use Rattle.blender.specs.Blend.{orZero}
 use Rattle.cell.proofs.Alike.{never}
 use Rattle.blender.specs.declared.Coverage.the-variants.{Unknown, Known}
 use Rattle.frame.specs.Frame.{Frame, putCell}

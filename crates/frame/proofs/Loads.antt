@@ -11,7 +11,7 @@ use Rattle.blender.specs.declared.Coverage.the-variants.{Unknown, Known}
 use Rattle.cell.specs.declared.Cell.{Cell}
 use Rattle.cell.specs.declared.Colors.{Colors}
 use Rattle.cell.specs.Marks.{highestMark, colorMarked, coverageMarked, coverageOf}
-use Rattle.cell.specs.Rules.{orZero}
+use Rattle.blender.specs.Blend.{orZero}
 use Rattle.frame.specs.Frame.{Frame, cellAt}
 use Rattle.frame.specs.Fits.{Fit, knownCell, colorsAt, colorsIf}
 use Rattle.frame.specs.Loads.{CoverageKnown, Loadable}

@@ -6,9 +6,15 @@ use mathlib.Core.List.{List}
 use lib.ListN.{length, getD, set}
 use Rattle.cell.specs.declared.Cell.{Cell}
 use Rattle.cell.specs.Marks.{highestMark, colorMarked, coverageMarked, coverageOf}
-use Rattle.cell.specs.Rules.{orZero}
+use Rattle.blender.specs.Blend.{orZero}
+use Rattle.cell.specs.Rules.{ruleF4}
 use Rattle.frame.specs.Frame.{Frame}
 use Rattle.cell.specs.declared.Colors.{Colors}
+
+-- three colour bytes and one coverage for each mark
+pub record Long (f : Frame) : Type 0 where
+  pub colors : length (f .colors) ≡ 3 * length (f .marks)
+  pub coverages : length (f .coverages) ≡ length (f .marks)
 
 -- what is loaded of a pixel: its colour bytes
 abbrev pub colorsAt : List ℕ → ℕ → Colors
@@ -41,12 +47,15 @@ knownCell x =
 abbrev pub putIf : Bool → List ℕ → ℕ → ℕ → List ℕ
 putIf known l i v = cond known (set l i v) l
 
--- a pixel stored as far as it is known
-abbrev pub putKnown : Frame → ℕ → Cell → Frame
-putKnown f p x =
-    let known = colorMarked (x .mark) in
+-- a pixel stored: its colours if they are known, its coverage if it is given, and its mark
+abbrev pub storedAt : Frame → ℕ → Bool → Colors → Bool → ℕ → ℕ → Frame
+storedAt f p known new covers coverage mark =
     record {
-      colors = putIf known (putIf known (putIf known (f .colors) (3 * p) (x .red)) (3 * p + 1) (x .green)) (3 * p + 2) (x .blue);
-      coverages = putIf (coverageMarked (x .mark)) (f .coverages) p (x .coverage);
-      marks = set (f .marks) p (x .mark);
+      colors = putIf known (putIf known (putIf known (f .colors) (3 * p) (new .red)) (3 * p + 1) (new .green)) (3 * p + 2) (new .blue);
+      coverages = putIf covers (f .coverages) p coverage;
+      marks = set (f .marks) p mark;
     }
+
+-- and as far as its mark says that it is known
+abbrev pub putKnown : Frame → ℕ → Cell → Frame
+putKnown f p x = storedAt f p (colorMarked (x .mark)) (ruleF4 x) (coverageMarked (x .mark)) (x .coverage) (x .mark)

@@ -5,7 +5,7 @@ use mathlib.Core.Bool.{true}
 use mathlib.Core.List.{List}
 use lib.ListN.{length, getD}
 use Rattle.cell.specs.Marks.{colorMarked, coverageMarked, coverageOf}
-use Rattle.cell.specs.Rules.{orZero}
+use Rattle.blender.specs.Blend.{orZero}
 use Rattle.frame.specs.Frame.{Frame}
 
 -- ---- what pixel p's mark says

@@ -3,18 +3,20 @@
 ghost use mathlib.Core.Path.{_≡_};
 ghost use Prim.Native.Nat.{_<_};
 ghost use lib.ListN.{length};
-ghost use Rattle.frame.specs.Frame.{frameOf, cellAt};
-ghost use Rattle.frame.specs.Fits.{Fit, knownCell, putIf, putKnown};
+ghost use Rattle.frame.specs.Frame.{cellAt};
+ghost use Rattle.frame.specs.Lent.{old, new, lent, before, after};
+ghost use Rattle.frame.specs.Fits.{Long, knownCell, putIf, storedAt, putKnown};
 ghost use Rattle.frame.specs.Loads.{Loadable};
 use cell::Cell;
+use cell::Colors;
 
 pub mod load; // the loads of colour and coverage bytes
 pub mod checks; // numbers 1 to 3
 
 // The bytes of a pixel as far as they are known.
 pub fn known_cell(colors: &[u8], coverages: &[u8], marks: &[u8], pixel: usize) -> Cell
-    requires { ⌜ Loadable (frameOf (now colors) (now coverages) (now marks)) pixel ⌝ }
-    ensures { λ r. ⌜ r ≡ knownCell (cellAt (frameOf (now (colors .entry)) (now (coverages .entry)) (now (marks .entry))) pixel) ⌝ }
+    requires { ⌜ Loadable (lent colors coverages marks) pixel ⌝ }
+    ensures { λ r. ⌜ r ≡ knownCell (cellAt (before colors coverages marks) pixel) ⌝ }
 {
     let mark = marks[pixel];
     let color = load::known_color(colors, marks, pixel);
@@ -29,29 +31,64 @@ pub fn known_cell(colors: &[u8], coverages: &[u8], marks: &[u8], pixel: usize) -
 }
 
 // Stores a byte that is known.
-pub fn put_byte(bytes: &mut [u8], at: usize, known: bool, byte: u8)
+fn put_byte(bytes: &mut [u8], at: usize, known: bool, byte: u8)
     requires { ⌜ at < length (now bytes) ⌝ }
-    ensures { λ r. ⌜ now (bytes .exit) ≡ putIf known (now (bytes .entry)) at byte ⌝ }
+    ensures { λ r. ⌜ new bytes ≡ putIf known (old bytes) at byte ⌝ }
 {
     if known {
         bytes[at] = byte;
     }
 }
 
-// Stores a pixel's mark, and its bytes where the mark says that they are known.
-pub fn put_cell(colors: &mut [u8], coverages: &mut [u8], marks: &mut [u8], pixel: usize, cell: Cell)
-    requires { ⌜ pixel < length (now marks) ⌝ ∗ ⌜ Fit (length (now marks)) (frameOf (now colors) (now coverages) (now marks)) ⌝ }
-    ensures { λ r. ⌜ frameOf (now (colors .exit)) (now (coverages .exit)) (now (marks .exit)) ≡ putKnown (frameOf (now (colors .entry)) (now (coverages .entry)) (now (marks .entry))) pixel cell ⌝ }
+// Stores a pixel: its colours where they are known, its coverage where it is given, and its mark.
+pub fn store(
+    colors: &mut [u8],
+    coverages: &mut [u8],
+    marks: &mut [u8],
+    pixel: usize,
+    known: bool,
+    new: Colors,
+    covers: bool,
+    coverage: u8,
+    mark: u8,
+)
+    requires { ⌜ pixel < length (now marks) ⌝ }
+    requires { ⌜ Long (lent colors coverages marks) ⌝ }
+    ensures { λ r. ⌜ after colors coverages marks ≡ storedAt (before colors coverages marks) pixel known new covers coverage mark ⌝ }
 {
     let at = 3 * pixel;
     let green_at = at + 1;
     let blue_at = at + 2;
+    put_byte(colors, at, known, new.red);
+    put_byte(colors, green_at, known, new.green);
+    put_byte(colors, blue_at, known, new.blue);
+    put_byte(coverages, pixel, covers, coverage);
+    marks[pixel] = mark;
+}
+
+// Stores a pixel's mark, and its bytes where the mark says that they are known.
+pub fn put_cell(colors: &mut [u8], coverages: &mut [u8], marks: &mut [u8], pixel: usize, cell: Cell)
+    requires { ⌜ pixel < length (now marks) ⌝ }
+    requires { ⌜ Long (lent colors coverages marks) ⌝ }
+    ensures { λ r. ⌜ after colors coverages marks ≡ putKnown (before colors coverages marks) pixel cell ⌝ }
+{
     let mark = cell.mark;
     let known = cell::color_marked(mark);
     let covered = cell::coverage_marked(mark);
-    put_byte(colors, at, known, cell.red);
-    put_byte(colors, green_at, known, cell.green);
-    put_byte(colors, blue_at, known, cell.blue);
-    put_byte(coverages, pixel, covered, cell.coverage);
-    marks[pixel] = mark;
+    let new = Colors {
+        red: cell.red,
+        green: cell.green,
+        blue: cell.blue,
+    };
+    store(
+        colors,
+        coverages,
+        marks,
+        pixel,
+        known,
+        new,
+        covered,
+        cell.coverage,
+        mark,
+    );
 }

@@ -4,6 +4,7 @@ ghost use mathlib.Core.Path.{_≡_};
 ghost use mathlib.Core.Bool.{cond};
 ghost use Prim.Native.Nat.{_<_};
 ghost use lib.ListN.{length, getD};
+ghost use Rattle.frame.specs.Lent.{old};
 ghost use Rattle.cell.specs.Marks.{colorMarked, coverageMarked};
 ghost use Rattle.frame.specs.Loads.{ColorKnown, CoverageKnown, ColorThere, CoverageThere};
 ghost use Rattle.frame.specs.Fits.{colorsAt, colorsIf};
@@ -11,8 +12,9 @@ use cell::Colors;
 
 // The colour bytes of a pixel whose colour is known.
 pub fn color(colors: &[u8], marks: &[u8], pixel: usize) -> Colors
-    requires { ⌜ ColorKnown (now marks) pixel ⌝ ∗ ⌜ ColorThere (now colors) (now marks) pixel ⌝ }
-    ensures { λ r. ⌜ r ≡ colorsAt (now (colors .entry)) pixel ⌝ }
+    requires { ⌜ ColorKnown (now marks) pixel ⌝ }
+    requires { ⌜ ColorThere (now colors) (now marks) pixel ⌝ }
+    ensures { λ r. ⌜ r ≡ colorsAt (old colors) pixel ⌝ }
 {
     let red_at = 3 * pixel;
     let green_at = red_at + 1;
@@ -25,16 +27,18 @@ pub fn color(colors: &[u8], marks: &[u8], pixel: usize) -> Colors
 
 // The coverage of a pixel whose coverage is known.
 pub fn coverage(coverages: &[u8], marks: &[u8], pixel: usize) -> u8
-    requires { ⌜ CoverageKnown (now marks) pixel ⌝ ∗ ⌜ CoverageThere (now coverages) (now marks) pixel ⌝ }
-    ensures { λ r. ⌜ r ≡ getD (now (coverages .entry)) pixel 0 ⌝ }
+    requires { ⌜ CoverageKnown (now marks) pixel ⌝ }
+    requires { ⌜ CoverageThere (now coverages) (now marks) pixel ⌝ }
+    ensures { λ r. ⌜ r ≡ getD (old coverages) pixel 0 ⌝ }
 {
     coverages[pixel]
 }
 
 // A pixel's colour bytes, if they are known; else zeros, and none is loaded.
 pub fn known_color(colors: &[u8], marks: &[u8], pixel: usize) -> Colors
-    requires { ⌜ pixel < length (now marks) ⌝ ∗ ⌜ ColorThere (now colors) (now marks) pixel ⌝ }
-    ensures { λ r. ⌜ r ≡ colorsIf (colorMarked (getD (now (marks .entry)) pixel 0)) (colorsAt (now (colors .entry)) pixel) ⌝ }
+    requires { ⌜ pixel < length (now marks) ⌝ }
+    requires { ⌜ ColorThere (now colors) (now marks) pixel ⌝ }
+    ensures { λ r. ⌜ r ≡ colorsIf (colorMarked (getD (old marks) pixel 0)) (colorsAt (old colors) pixel) ⌝ }
 {
     let mark = marks[pixel];
     let known = cell::color_marked(mark);
@@ -50,8 +54,9 @@ pub fn known_color(colors: &[u8], marks: &[u8], pixel: usize) -> Colors
 
 // A pixel's coverage, if it is known; else 0, and it is not loaded.
 pub fn known_coverage(coverages: &[u8], marks: &[u8], pixel: usize) -> u8
-    requires { ⌜ pixel < length (now marks) ⌝ ∗ ⌜ CoverageThere (now coverages) (now marks) pixel ⌝ }
-    ensures { λ r. ⌜ r ≡ cond (coverageMarked (getD (now (marks .entry)) pixel 0)) (getD (now (coverages .entry)) pixel 0) 0 ⌝ }
+    requires { ⌜ pixel < length (now marks) ⌝ }
+    requires { ⌜ CoverageThere (now coverages) (now marks) pixel ⌝ }
+    ensures { λ r. ⌜ r ≡ cond (coverageMarked (getD (old marks) pixel 0)) (getD (old coverages) pixel 0) 0 ⌝ }
 {
     let mark = marks[pixel];
     let known = cell::coverage_marked(mark);

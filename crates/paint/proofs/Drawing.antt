@@ -11,9 +11,9 @@ use Rattle.mode.specs.declared.RenderMode.{RenderMode}
 use Rattle.combiner.specs.declared.Combiner.{Combiner}
 use Rattle.raster.specs.Parts.{from}
 use Rattle.raster.specs.Emitted.{Emit}
-use Rattle.raster.proofs.Loops.{Going, going-start, going-fits, going-more, going-done}
+use Rattle.raster.proofs.Loops.{Going, going-start, going-fits, going-more, going-by-fits, going-by, going-done}
 use Rattle.frame.specs.Frame.{Frame}
-use Rattle.frame.specs.Fits.{Fit}
+use Rattle.frame.specs.Fits.{Long, Fit}
 use Rattle.paint.specs.Steps.{stepFrame}
 use Rattle.paint.specs.Pixel.{Drew, Room}
 
@@ -52,6 +52,10 @@ module _ {n : ℕ} {f g : Frame} (a : Fit n f) (b : Fit n g) where
   pub same-marks : length (g .marks) ≡ length (f .marks)
   same-marks = b .marks ∙ sym (a .marks)
 
+-- a frame that fits is long
+pub long-now : {n : ℕ} {f : Frame} → Fit n f → Long f
+long-now h = record { colors = rw (h .marks) (h .colors); coverages = h .coverages ∙ sym (h .marks) }
+
 -- ---- a loop over the parts from a up to b, with i the next: from f₀ to f, with n pixels counted
 pub record Drawing (mode : RenderMode) (k : Combiner) (c : ℕ → List Emit) (a b : ℕ) (f₀ : Frame) (i : ℕ) (f : Frame) (n : ℕ) : Type 0 where
   pub going : Going (stepFrame mode k) c a b f₀ i f n
@@ -61,6 +65,7 @@ module _ (mode : RenderMode) (k : Combiner) (c : ℕ → List Emit) (a b : ℕ) 
   pub drawing-start : Fit (length (f₀ .marks)) f₀ → Drawing mode k c a b f₀ a f₀ 0
   drawing-start h = record { going = going-start (stepFrame mode k) c a b f₀; fit = h }
 
+  -- part i
   module _ {i n r m : ℕ} {f g : Frame} (h : i < b) (l : Drawing mode k c a b f₀ i f n) (d : Drew mode k m (c i) f g r) where
     pub drawing-fits : n + r ≤ length (from c a b)
     drawing-fits = going-fits (stepFrame mode k) c a b f₀ h (l .going) (d .ran)
@@ -72,6 +77,22 @@ module _ (mode : RenderMode) (k : Combiner) (c : ℕ → List Emit) (a b : ℕ) 
           fit = subst (λ (j : ℕ). Fit j g) (e ∙ l .fit .marks) (d .fit);
         }
 
+  -- the parts from i up to e
+  module _ {i e n r m : ℕ} {f g : Frame} (h : i ≤ e) (t : e ≤ b) (l : Drawing mode k c a b f₀ i f n) (d : Drew mode k m (from c i e) f g r) where
+    pub drawing-by-fits : n + r ≤ length (from c a b)
+    drawing-by-fits = going-by-fits (stepFrame mode k) c a b f₀ h t (l .going) (d .ran)
+
+    pub drawing-by : m ≡ length (f .marks) → Drawing mode k c a b f₀ e g (n + r)
+    drawing-by q =
+        record {
+          going = going-by (stepFrame mode k) c a b f₀ h t (l .going) (d .ran);
+          fit = subst (λ (j : ℕ). Fit j g) (q ∙ l .fit .marks) (d .fit);
+        }
+
+  -- the same count, said otherwise
+  pub drawing-count : {i m n : ℕ} {f : Frame} → m ≡ n → Drawing mode k c a b f₀ i f m → Drawing mode k c a b f₀ i f n
+  drawing-count {i} {m} {n} {f} e d = subst (λ (j : ℕ). Drawing mode k c a b f₀ i f j) e d
+
   pub drawing-done : {i n : ℕ} {f : Frame} → b ≤ i → Drawing mode k c a b f₀ i f n → Drew mode k (length (f₀ .marks)) (from c a b) f₀ f n
   drawing-done h l = record { ran = going-done (stepFrame mode k) c a b f₀ h (l .going); fit = l .fit }
 
@@ -80,3 +101,7 @@ pub drew-as :
     {mode : RenderMode} {k : Combiner} {m : ℕ} {ds es : List Emit} {f g : Frame} {n : ℕ}
     → ds ≡ es → Drew mode k m ds f g n → Drew mode k m es f g n
 drew-as {mode} {k} {m} {ds} {es} {f} {g} {n} e d = subst (λ (l : List Emit). Drew mode k m l f g n) e d
+
+pub drew-count :
+    {mode : RenderMode} {k : Combiner} {m : ℕ} {es : List Emit} {f g : Frame} {n r : ℕ} → n ≡ r → Drew mode k m es f g n → Drew mode k m es f g r
+drew-count {mode} {k} {m} {es} {f} {g} e d = subst (λ (j : ℕ). Drew mode k m es f g j) e d

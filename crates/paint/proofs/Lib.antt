@@ -1,7 +1,7 @@
--- Laws of emitted pixels on the frame, which the proofs of functions share, `draw`'s too.
+-- Laws of emitted pixels on the frame, which the proofs of functions share, also those of the crates above.
 pub mod Fits
 pub mod Steps
 pub mod Drawing
-pub mod Pens
-pub mod Fills
+pub mod Paints
+pub mod Filled
 pub mod Joins

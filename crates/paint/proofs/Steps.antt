@@ -12,18 +12,21 @@ use Rattle.combiner.specs.declared.Combiner.{Combiner}
 use Rattle.edges.specs.Sample.{countOf}
 use Rattle.cell.specs.declared.Cell.{Cell}
 use Rattle.blender.specs.declared.Coverage.the-variants.{Known, Unknown}
-use Rattle.cell.specs.declared.Source.{Source}
+use Rattle.blender.specs.declared.Source.{Source}
 use Rattle.cell.specs.Marks.{colorMarked, coverageMarked, coverageOf}
-use Rattle.cell.specs.Rules.{orZero, cellStep}
+use Rattle.cell.specs.Rules.{cellStep}
+use Rattle.blender.specs.Blend.{orZero}
 use Rattle.cell.specs.Alike.{AlikeCell}
 use Rattle.cell.proofs.Alike.{cell-alike, kept-colors, kept-coverage}
-use Rattle.raster.specs.declared.Fragment.{Fragment}
-use Rattle.raster.specs.declared.Fragment.the-variants.{Empty, Covered}
-use Rattle.raster.specs.Emitted.{emits}
+use Rattle.mixer.specs.Mixer.{colorValue}
+use Rattle.raster.specs.declared.Fragment.the-variants.{Empty}
+use Rattle.raster.specs.Emitted.{shown, covered, emits}
 use Rattle.frame.specs.Frame.{Frame, frameOf, cellAt, putCell}
 use Rattle.frame.specs.Fits.{Fit, knownCell, putIf, putKnown}
 use Rattle.paint.specs.Steps.{stepFrame}
-use Rattle.paint.specs.Pixel.{Drew, emitOf, samplesOf, Counted}
+use Rattle.paint.specs.Pixel.{Drew, emitOf}
+use Rattle.paint.specs.declared.rows.Hue.{Hue}
+use Rattle.paint.specs.Row.{pixelOf}
 use Rattle.paint.proofs.Fits.{fit-step}
 
 module _ (mode : RenderMode) (k : Combiner) (f : Frame) (pixel mask : ℕ) (color : Rgba) (shade : Float) where
@@ -106,23 +109,22 @@ module _ (mode : RenderMode) (k : Combiner) (f : Frame) (pixel mask : ℕ) (colo
       ∙ (λ i. frameOf (known-colors f pixel x y a room place (kept-colors mode k s c) i) (known-coverages f pixel x y a room place (kept-coverage mode k s c) i) (set (f .marks) pixel (a .mark i)))
       ∙ stored mode k f pixel mask color shade hn refl
 
--- the samples of a fragment that is covered
-pub counted : {r : Fragment} {mask : ℕ} {a b c d e : Float} → r ≡ Covered mask a b c d e → Counted r → (1 ≤ countOf mask) × (countOf mask ≤ 8)
-counted {r} h (l, u) = let e = ap samplesOf h in (subst (λ (n : ℕ). 1 ≤ n) e l, subst (λ (n : ℕ). n ≤ 8) e u)
+-- ---- a pixel with these samples: nothing where it is not shown, and else one step
+module _ (mode : RenderMode) (k : Combiner) (mask : ℕ) (hue : Hue) (w y x : ℕ) {n : ℕ} {f : Frame} (fit : Fit n f) where
+  pub pixel-none : shown (mode .antialias) mask ≡ false → Drew mode k n (pixelOf (mode .antialias) mask hue w y x) f f 0
+  unfolding pixelOf
+  pixel-none h =
+      subst (λ (b : Bool). Drew mode k n (emits (cond b (covered mask (colorValue (hue .color)) (hue .«shade_alpha»)) Empty) (y * w + x)) f f 0) (sym h)
+      (record { ran = record { state = refl; count = refl }; fit = fit })
 
--- a pixel that emits nothing, and one that emits
-module _ (mode : RenderMode) (k : Combiner) {f : Frame} {n : ℕ} (fit : Fit n f) (pixel : ℕ) {r : Fragment} where
-  pub drew-none : r ≡ Empty → Drew mode k n (emits r pixel) f f 0
-  drew-none h = subst (λ (q : Fragment). Drew mode k n (emits q pixel) f f 0) (sym h) (record { ran = record { state = refl; count = refl }; fit = fit })
-
-  pub drew-one :
-      {g : Frame} {mask : ℕ} {a b c d e : Float} → r ≡ Covered mask a b c d e → Counted r
-      → g ≡ stepFrame mode k f (emitOf pixel mask (record { r = a; g = b; b = c; a = d }) e)
-      → Drew mode k n (emits r pixel) f g 1
-  drew-one {g} {mask} {a} {b} {c} {d} {e} h w t =
-      let y = counted h w in
-      subst (λ (q : Fragment). Drew mode k n (emits q pixel) f g 1) (sym h)
+  pub pixel-one :
+      {g : Frame} → shown (mode .antialias) mask ≡ true → (1 ≤ countOf mask) × (countOf mask ≤ 8)
+      → g ≡ stepFrame mode k f (emitOf (y * w + x) mask (hue .color) (hue .«shade_alpha»))
+      → Drew mode k n (pixelOf (mode .antialias) mask hue w y x) f g 1
+  unfolding pixelOf
+  pixel-one {g} h c t =
+      subst (λ (b : Bool). Drew mode k n (emits (cond b (covered mask (colorValue (hue .color)) (hue .«shade_alpha»)) Empty) (y * w + x)) f g 1) (sym h)
       (record {
         ran = record { state = t; count = refl };
-        fit = subst (Fit n) (sym t) (fit-step mode k (emitOf pixel mask (record { r = a; g = b; b = c; a = d }) e) fit (y .0) (y .1));
+        fit = subst (Fit n) (sym t) (fit-step mode k (emitOf (y * w + x) mask (hue .color) (hue .«shade_alpha»)) fit (c .0) (c .1));
       })

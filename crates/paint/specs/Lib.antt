@@ -1,5 +1,5 @@
 -- The definitions that the contracts of `paint` cite.
 pub mod Steps
 pub mod Pixel
-pub mod Pen
-pub mod Fill
+pub mod Paint
+pub mod Row

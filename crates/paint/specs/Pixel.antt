@@ -6,9 +6,7 @@ use lib.ListN.{length}
 use Rattle.mode.specs.declared.Rgba.{Rgba}
 use Rattle.range.specs.declared.Range.{Range}
 use Rattle.edges.specs.declared.Edges.{Edges}
-use Rattle.edges.specs.Sample.{countOf, maskOf}
-use Rattle.raster.specs.declared.Fragment.{Fragment}
-use Rattle.raster.specs.declared.Fragment.the-variants.{Empty, Covered}
+use Rattle.edges.specs.Sample.{maskOf}
 use Rattle.raster.specs.Emitted.{Emit}
 use Rattle.frame.specs.Frame.{Frame}
 use Rattle.frame.specs.Fits.{Fit}
@@ -31,15 +29,6 @@ DrewOn mode k es colors coverages marks count =
 
 abbrev pub emitOf : ℕ → ℕ → Rgba → Float → Emit
 emitOf pixel mask color shade = record { pixel = pixel; mask = mask; color = color; shade = shade }
-
--- the number of samples of a pixel that emits something; 1 stands for one that does not
-abbrev pub samplesOf : Fragment → ℕ
-samplesOf Empty = 1
-samplesOf (Covered mask r g b a shade) = countOf mask
-
--- a pixel that emits something has 1 to 8 samples
-abbrev pub Counted : Fragment → Type 0
-Counted fragment = (1 ≤ samplesOf fragment) × (samplesOf fragment ≤ 8)
 
 -- a frame whose rows above b, each of w pixels, are there, and which numbers 1 to 3 let through
 pub record Room (w b : ℕ) (f : Frame) : Type 0 where

@@ -3,7 +3,7 @@ use mathlib.Core.List.{List, foldl}
 use Rattle.mode.specs.declared.RenderMode.{RenderMode}
 use Rattle.combiner.specs.declared.Combiner.{Combiner}
 use Rattle.edges.specs.Sample.{countOf}
-use Rattle.cell.specs.declared.Source.{Source}
+use Rattle.blender.specs.declared.Source.{Source}
 use Rattle.cell.specs.Rules.{cellStep}
 use Rattle.raster.specs.Emitted.{Emit}
 use Rattle.frame.specs.Frame.{Frame, cellAt, putCell}

@@ -1,216 +1,95 @@
-// Runs of pixels of one colour, each with all its samples: no sample is tested, and what does not turn on the pixel was worked out before.
+// A run of pixels of one colour, each with all its samples: no sample is tested, and what does not turn on the pixel was worked out before.
 ghost use mathlib.Core.Path.{_≡_};
-ghost use mathlib.Core.Bool.{cond};
-ghost use mathlib.Core.List.{List, [], _∷_, foldl};
-ghost use Prim.Native.Nat.{ℕ, _+_, _*_, _<_, _≤_};
-ghost use lib.Ieee.{Float};
+ghost use mathlib.Core.Bool.{true, cond, _||_};
+ghost use Prim.Native.Nat.{_+_, _<_, _≤_};
 ghost use lib.ListN.{length, getD};
 ghost use Rattle.raster.specs.Parts.{from};
-ghost use Rattle.frame.specs.Frame.{frameOf};
-ghost use Rattle.raster.specs.Emitted.{Emit};
-ghost use Rattle.cell.specs.Marks.{coverageMarked};
-ghost use Rattle.paint.specs.Pixel.{Drew, emitOf, Room};
-ghost use Rattle.paint.specs.Pen.{Even};
-ghost use Rattle.paint.specs.Fill.{Long, fullAt, filledAt, laidAt, one};
-use crate::pen::Pen;
-use blender::layer::Layer;
+ghost use Rattle.cell.specs.Marks.{colorMarked};
+ghost use Rattle.cell.specs.Coloring.{overColors};
+ghost use Rattle.frame.specs.Lent.{old, lent, before, after};
+ghost use Rattle.frame.specs.Fits.{Long, colorsAt, colorsIf};
+ghost use Rattle.frame.specs.Loads.{ColorThere};
+ghost use Rattle.paint.specs.Pixel.{DrewOn, Room};
+ghost use Rattle.paint.specs.Paint.{Prepared};
+ghost use Rattle.paint.specs.Row.{filledAt, fullAt};
+use crate::prepare::Paint;
 use cell::Colors;
+use cell::full::Full;
+use cell::full::SEVEN;
+use cell::full::stores_seven;
 
-const FULL: u8 = 7;
-
-// Whether 7 is stored, of a coverage that is marked or not.
-fn stores_full(marked: bool, seven: bool, sets: bool) -> bool
-    ensures { λ r. ⌜ r ≡ cond marked seven sets ⌝ }
+// Whether a full pixel's colour is then known.
+fn full_known(full: Full, mark: u8, covered: bool) -> bool
+    ensures { λ r. ⌜ r ≡ cond (full .layered) (colorMarked mark) (full .sure || covered) ⌝ }
 {
-    if marked {
-        return seven;
+    if full.layered {
+        return cell::color_marked(mark);
     }
-    sets
+    full.sure | covered
 }
 
-// The mark of a colour and of a coverage, each known or not.
-fn mark_with(known: bool, covered: bool) -> u8
-    ensures { λ r. ⌜ r ≡ cond known (cond covered 3 1) (cond covered 2 0) ⌝ }
+// Its bytes if so.
+fn full_colors(colors: &[u8], marks: &[u8], full: Full, pixel: usize) -> Colors
+    requires { ⌜ pixel < length (now marks) ⌝ }
+    requires { ⌜ ColorThere (now colors) (now marks) pixel ⌝ }
+    ensures { λ r. ⌜ r ≡ cond (full .layered) (overColors (full .layer) (colorsIf (colorMarked (getD (old marks) pixel 0)) (colorsAt (old colors) pixel))) (full .own) ⌝ }
 {
-    if known {
-        if covered {
-            return 3;
-        }
-        return 1;
+    if full.layered {
+        let memory = frame::load::known_color(colors, marks, pixel);
+        return cell::over_colors(full.layer, memory);
     }
-    if covered {
-        return 2;
-    }
-    0
+    full.own
 }
 
-// A pixel whose colour is then known or not, over a coverage that is marked or not.
-fn put_full(
-    colors: &mut [u8],
-    coverages: &mut [u8],
-    marks: &mut [u8],
-    known: bool,
-    new: Colors,
-    marked: bool,
-    seven: bool,
-    sets: bool,
-    pixel: usize,
-)
-    requires { ⌜ (pixel < length (now marks)) × (marked ≡ coverageMarked (getD (now marks) pixel 0)) ⌝ ∗ ⌜ Long (frameOf (now colors) (now coverages) (now marks)) ⌝ }
-    ensures { λ r. ⌜ frameOf (now (colors .exit)) (now (coverages .exit)) (now (marks .exit)) ≡ fullAt known seven sets new (frameOf (now (colors .entry)) (now (coverages .entry)) (now (marks .entry))) pixel ⌝ }
-{
-    let at = 3 * pixel;
-    let green_at = at + 1;
-    let blue_at = at + 2;
-    let stored = stores_full(marked, seven, sets);
-    let after = mark_with(known, marked | sets);
-    frame::put_byte(colors, at, known, new.red);
-    frame::put_byte(colors, green_at, known, new.green);
-    frame::put_byte(colors, blue_at, known, new.blue);
-    frame::put_byte(coverages, pixel, stored, FULL);
-    marks[pixel] = after;
-}
-
-// A pixel of its own colour: where it is opaque, and where the coverage is known.
-fn fill_pixel(
-    colors: &mut [u8],
-    coverages: &mut [u8],
-    marks: &mut [u8],
-    own: Colors,
-    opaque: bool,
-    seven: bool,
-    sets: bool,
-    pixel: usize,
-)
-    requires { ⌜ pixel < length (now marks) ⌝ ∗ ⌜ Long (frameOf (now colors) (now coverages) (now marks)) ⌝ }
-    ensures { λ r. ⌜ frameOf (now (colors .exit)) (now (coverages .exit)) (now (marks .exit)) ≡ filledAt opaque seven sets own (frameOf (now (colors .entry)) (now (coverages .entry)) (now (marks .entry))) pixel ⌝ }
+// A full pixel: its bytes where they are known, and 7 where its coverage becomes that.
+fn fill_pixel(colors: &mut [u8], coverages: &mut [u8], marks: &mut [u8], full: Full, pixel: usize)
+    requires { ⌜ pixel < length (now marks) ⌝ }
+    requires { ⌜ Long (lent colors coverages marks) ⌝ }
+    ensures { λ r. ⌜ after colors coverages marks ≡ filledAt full (before colors coverages marks) pixel ⌝ }
 {
     let mark = marks[pixel];
-    let marked = cell::coverage_marked(mark);
-    put_full(
+    let covered = cell::coverage_marked(mark);
+    let known = full_known(full, mark, covered);
+    let new = full_colors(colors, marks, full, pixel);
+    let seven = stores_seven(covered, full.seven, full.sets);
+    let after = cell::mark_of(known, covered | full.sets);
+    frame::store(
         colors,
         coverages,
         marks,
-        opaque | marked,
-        own,
-        marked,
-        seven,
-        sets,
         pixel,
-    );
-}
-
-// The pixels from start up to end.
-fn fill(
-    colors: &mut [u8],
-    coverages: &mut [u8],
-    marks: &mut [u8],
-    own: Colors,
-    opaque: bool,
-    seven: bool,
-    sets: bool,
-    start: usize,
-    end: usize,
-)
-    requires { ⌜ end ≤ length (now marks) ⌝ ∗ ⌜ Long (frameOf (now colors) (now coverages) (now marks)) ⌝ }
-    ensures { λ r. ⌜ frameOf (now (colors .exit)) (now (coverages .exit)) (now (marks .exit)) ≡ foldl (filledAt opaque seven sets own) (frameOf (now (colors .entry)) (now (coverages .entry)) (now (marks .entry))) (from one start end) ⌝ }
-{
-    for pixel in start..end {
-        fill_pixel(colors, coverages, marks, own, opaque, seven, sets, pixel);
-    }
-}
-
-// A layered pixel: where the memory's colour is known.
-fn lay_pixel(
-    colors: &mut [u8],
-    coverages: &mut [u8],
-    marks: &mut [u8],
-    layer: Layer,
-    seven: bool,
-    sets: bool,
-    pixel: usize,
-)
-    requires { ⌜ pixel < length (now marks) ⌝ ∗ ⌜ Long (frameOf (now colors) (now coverages) (now marks)) ⌝ }
-    ensures { λ r. ⌜ frameOf (now (colors .exit)) (now (coverages .exit)) (now (marks .exit)) ≡ laidAt seven sets layer (frameOf (now (colors .entry)) (now (coverages .entry)) (now (marks .entry))) pixel ⌝ }
-{
-    let mark = marks[pixel];
-    let known = cell::color_marked(mark);
-    let memory = frame::load::known_color(colors, marks, pixel);
-    let new = cell::over_colors(layer, memory);
-    let marked = cell::coverage_marked(mark);
-    put_full(
-        colors,
-        coverages,
-        marks,
         known,
         new,
-        marked,
         seven,
-        sets,
-        pixel,
+        SEVEN,
+        after,
     );
 }
 
-// The pixels from start up to end.
-fn lay(
-    colors: &mut [u8],
-    coverages: &mut [u8],
-    marks: &mut [u8],
-    layer: Layer,
-    seven: bool,
-    sets: bool,
-    start: usize,
-    end: usize,
-)
-    requires { ⌜ end ≤ length (now marks) ⌝ ∗ ⌜ Long (frameOf (now colors) (now coverages) (now marks)) ⌝ }
-    ensures { λ r. ⌜ frameOf (now (colors .exit)) (now (coverages .exit)) (now (marks .exit)) ≡ foldl (laidAt seven sets layer) (frameOf (now (colors .entry)) (now (coverages .entry)) (now (marks .entry))) (from one start end) ⌝ }
-{
-    for pixel in start..end {
-        lay_pixel(colors, coverages, marks, layer, seven, sets, pixel);
-    }
-}
-
-// Pixels start up to end of row y, each with all its samples, of the pen's own colour: how many they are.
+// Pixels start up to end of row y, each with all its samples: how many they are.
 pub fn fill_row(
     colors: &mut [u8],
     coverages: &mut [u8],
     marks: &mut [u8],
-    pen: Pen,
+    paint: Paint,
     width: u32,
     y: u32,
     start: u32,
     end: u32,
 ) -> u64
-    requires { ⌜ (start ≤ end) × (end ≤ width) × Even pen ⌝ ∗ ⌜ Room width (y + 1) (frameOf (now colors) (now coverages) (now marks)) ⌝ }
-    ensures { λ r. ⌜ ((c : ℕ → List Emit) (shade : ℕ → Float) → ((x : ℕ) → start ≤ x → x < end → c x ≡ emitOf (y * width + x) 255 (pen .color) (shade x) ∷ []) → Drew (pen .mode) (pen .combiner) (length (now (marks .entry))) (from c start end) (frameOf (now (colors .entry)) (now (coverages .entry)) (now (marks .entry))) (frameOf (now (colors .exit)) (now (coverages .exit)) (now (marks .exit))) r) ⌝ }
+    requires { ⌜ (start ≤ end) × (end ≤ width) × Prepared paint × (paint .even ≡ true) ⌝ }
+    requires { ⌜ Room width (y + 1) (lent colors coverages marks) ⌝ }
+    ensures { λ r. ⌜ DrewOn (paint .mode) (paint .combiner) (from (fullAt (paint .color) width y) start end) colors coverages marks r ⌝ }
 {
     let base = y * width;
-    let first = base + start;
-    let last = base + end;
-    let count = end - start;
-    if pen.layered {
-        lay(
-            colors,
-            coverages,
-            marks,
-            pen.layer,
-            pen.seven,
-            pen.sets,
-            first as usize,
-            last as usize,
-        );
-        return count as u64;
+    let full = paint.full;
+    let first = (base + start) as usize;
+    let last = (base + end) as usize;
+    let mut pixel = first;
+    while pixel < last {
+        fill_pixel(colors, coverages, marks, full, pixel);
+        pixel += 1;
     }
-    fill(
-        colors,
-        coverages,
-        marks,
-        pen.own,
-        pen.opaque,
-        pen.seven,
-        pen.sets,
-        first as usize,
-        last as usize,
-    );
+    let count = end - start;
     count as u64
 }

@@ -1,6 +1,6 @@
-// Emitted pixels on the lent frame (docs/RULES.md, Rules F1 to F5): what does not turn on the pixel, one pixel, a run of full ones, and the pixels of a
-// triangle's row.
-pub mod pen; // what does not turn on the pixel
+// Emitted pixels on the lent frame (docs/RULES.md, Rules F1 to F5). Every pixel of a draw goes one way: a row (rows) draws it by itself (pixels), or, where it lies in a
+// run of full pixels of one colour, with its run (fill).
+pub mod prepare; // what does not turn on the pixel
 pub mod pixels; // one emitted pixel
 pub mod fill; // a run of full pixels
-pub mod rows; // the pixels of a triangle's row
+pub mod rows; // a row of a triangle or of a rectangle

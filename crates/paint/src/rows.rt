@@ -1,37 +1,38 @@
-// The pixels of a row of a triangle: by their shades, or all of the pen's own colour. Where every sample is known to be covered, none is tested.
+// A row of a triangle or of a rectangle. Where every sample is known to be covered none is tested, and full pixels of one colour are drawn as a run.
 ghost use mathlib.Core.Path.{_≡_};
-ghost use Prim.Native.Nat.{ℕ, _+_, _<_, _≤_};
+ghost use mathlib.Core.Bool.{true, _&&_};
+ghost use Prim.Native.Nat.{_+_, _<_, _≤_};
 ghost use lib.ListN.{length};
-ghost use lib.Ieee.{Float};
-ghost use Rattle.range.specs.Inner.{Inner};
-ghost use Rattle.edges.specs.Bound.{allSamples};
 ghost use Rattle.edges.specs.Sample.{maskOf};
 ghost use Rattle.raster.specs.Parts.{from};
-ghost use Rattle.paint.specs.Pixel.{Room, Fulls, Drew};
-ghost use Rattle.frame.specs.Frame.{frameOf};
-ghost use Rattle.paint.specs.Pen.{Inked, Even, Own, shadedPixel, shadedAt, ownAt};
+ghost use Rattle.frame.specs.Lent.{lent};
+ghost use Rattle.paint.specs.Pixel.{Room, Fulls, DrewOn};
+ghost use Rattle.paint.specs.Paint.{Prepared, Own};
+ghost use Rattle.paint.specs.Row.{hueOf, pixelOf, rowAt, Runs};
 use crate::fill::fill_row;
-use crate::pen::Pen;
-use crate::pen::bytes_of;
-use crate::pixels::own_pixel;
-use crate::pixels::put_ink;
-use crate::pixels::step;
-use blender::layer::layer_of;
-use blender::layer::layered;
+use crate::pixels::draw_pixel;
+use crate::prepare::Paint;
 use cell::Colors;
-use cell::Ink;
 use combiner::Combiner;
 use edges::Edges;
 use mixer::Mixer;
 use mode::RenderMode;
+use mode::Rgba;
 use range::Range;
 use vertex::row::ShadeRow;
 
 const ALL: u8 = 255;
 
+// A pixel's combined colour and its shade alpha.
+pub struct Hue {
+    pub color: Rgba,
+    pub shade_alpha: f32,
+}
+
 // The samples of pixel x: all eight in the full part of its row, where none is tested.
 fn samples(edges: Edges, full: Range, x: u32) -> u8
-    requires { ⌜ x < 65536 ⌝ ∗ ⌜ Fulls edges full ⌝ }
+    requires { ⌜ x < 65536 ⌝ }
+    requires { ⌜ Fulls edges full ⌝ }
     ensures { λ r. ⌜ r ≡ maskOf edges x ⌝ }
 {
     if x < full.start {
@@ -43,138 +44,167 @@ fn samples(edges: Edges, full: Range, x: u32) -> u8
     edges::mask(edges, x)
 }
 
-// Pixel x of row y, with these samples. It takes the parts of the pen that it needs, since a whole pen would be copied for each pixel.
-fn draw_pixel(
+// By its shade; in a flat row, the one colour, with 1.0 for the shade's alpha.
+fn hue_at(mixer: Mixer, color: Rgba, flat: bool, row: ShadeRow, x: u32) -> Hue
+    requires { ⌜ x < 1024 ⌝ }
+    ensures { λ r. ⌜ r ≡ hueOf mixer color flat row x ⌝ }
+{
+    if flat {
+        return Hue {
+            color,
+            shade_alpha: 1.0,
+        };
+    }
+    let shade = row.at(x);
+    Hue {
+        color: mixer.color(shade),
+        shade_alpha: shade.a,
+    }
+}
+
+// Pixel x of row y, with these samples: how many are emitted. It takes the parts of the paint that it needs, since a whole one would be copied for each pixel.
+fn row_pixel(
     colors: &mut [u8],
     coverages: &mut [u8],
     marks: &mut [u8],
     mode: RenderMode,
     combiner: Combiner,
     mixer: Mixer,
-    own: Colors,
     plain: bool,
+    own: Colors,
+    color: Rgba,
+    flat: bool,
     row: ShadeRow,
     mask: u8,
     width: u32,
     y: u32,
     x: u32,
 ) -> u64
-    requires { ⌜ (x < width) × Own mode combiner plain own ⌝ ∗ ⌜ Room width (y + 1) (frameOf (now colors) (now coverages) (now marks)) ⌝ }
-    ensures { λ r. ⌜ Drew mode combiner (length (now (marks .entry))) (shadedPixel mode mixer row mask width y x) (frameOf (now (colors .entry)) (now (coverages .entry)) (now (marks .entry))) (frameOf (now (colors .exit)) (now (coverages .exit)) (now (marks .exit))) r ⌝ }
+    requires { ⌜ (x < width) × Own mode combiner plain own ⌝ }
+    requires { ⌜ Room width (y + 1) (lent colors coverages marks) ⌝ }
+    ensures { λ r. ⌜ DrewOn mode combiner (pixelOf (mode .antialias) mask (hueOf mixer color flat row x) width y x) colors coverages marks r ⌝ }
 {
     if !raster::is_shown(mode.antialias, mask) {
         return 0;
     }
-    let shade = row.at(x);
-    let color = mixer.color(shade);
+    let hue = hue_at(mixer, color, flat, row, x);
     let pixel = y * width + x;
-    if blender::opaque(mode, color.a) {
-        let bytes = bytes_of(plain, own, color);
-        let ink = Ink::Own(bytes);
-        put_ink(colors, coverages, marks, mode, ink, mask, pixel as usize);
-        return 1;
-    }
-    if layered(mode, color.a) {
-        let ink = Ink::Over(layer_of(mode, combiner, color));
-        put_ink(colors, coverages, marks, mode, ink, mask, pixel as usize);
-        return 1;
-    }
-    step(
+    draw_pixel(
         colors,
         coverages,
         marks,
         mode,
         combiner,
+        plain,
+        own,
         mask,
-        color,
-        shade.a,
+        hue.color,
+        hue.shade_alpha,
         pixel as usize,
     );
     1
 }
 
-// The pixels of row y from start up to end.
-pub fn draw_span(
+// Where the part of a row that starts at x ends: after pixel x, or after the run of full pixels where it starts.
+fn part_end(runs: bool, full: Range, x: u32, end: u32) -> u32
+    requires { ⌜ (x < end) × (full .end ≤ end) ⌝ }
+    ensures within { λ r. ⌜ (x < r) × (r ≤ end) ⌝ }
+    ensures run { λ r. ⌜ (x + 1 < r → (runs ≡ true) × (full .start ≤ x) × (r ≤ full .end)) ⌝ }
+{
+    let next = x + 1;
+    if !runs {
+        return next;
+    }
+    if x != full.start {
+        return next;
+    }
+    if next < full.end {
+        return full.end;
+    }
+    next
+}
+
+// Pixel x of row y, or the run from x up to next.
+fn draw_part(
     colors: &mut [u8],
     coverages: &mut [u8],
     marks: &mut [u8],
-    pen: Pen,
+    paint: Paint,
+    flat: bool,
     row: ShadeRow,
     edges: Edges,
     full: Range,
     width: u32,
     y: u32,
+    x: u32,
+    next: u32,
+) -> u64
+    requires { ⌜ (x < next) × (next ≤ width) × Fulls edges full × Prepared paint × Runs paint flat full x next ⌝ }
+    requires { ⌜ Room width (y + 1) (lent colors coverages marks) ⌝ }
+    ensures { λ r. ⌜ DrewOn (paint .mode) (paint .combiner) (from (rowAt paint flat row edges width y) x next) colors coverages marks r ⌝ }
+{
+    if x + 1 < next {
+        return fill_row(colors, coverages, marks, paint, width, y, x, next);
+    }
+    let mask = samples(edges, full, x);
+    row_pixel(
+        colors,
+        coverages,
+        marks,
+        paint.mode,
+        paint.combiner,
+        paint.mixer,
+        paint.plain,
+        paint.own,
+        paint.color,
+        flat,
+        row,
+        mask,
+        width,
+        y,
+        x,
+    )
+}
+
+// The pixels of row y from start up to end: by the shades of a row, or, where it is flat, all of the paint's own colour.
+pub fn draw_row(
+    colors: &mut [u8],
+    coverages: &mut [u8],
+    marks: &mut [u8],
+    paint: Paint,
+    flat: bool,
+    row: ShadeRow,
+    edges: Edges,
+    width: u32,
+    y: u32,
     start: u32,
     end: u32,
 ) -> u64
-    requires { ⌜ (end ≤ width) × Fulls edges full × Inked pen ⌝ ∗ ⌜ Room width (y + 1) (frameOf (now colors) (now coverages) (now marks)) ⌝ }
-    ensures { λ r. ⌜ Drew (pen .mode) (pen .combiner) (length (now (marks .entry))) (from (shadedAt pen row edges width y) start end) (frameOf (now (colors .entry)) (now (coverages .entry)) (now (marks .entry))) (frameOf (now (colors .exit)) (now (coverages .exit)) (now (marks .exit))) r ⌝ }
+    requires { ⌜ (start ≤ end) × (end ≤ width) × Prepared paint ⌝ }
+    requires { ⌜ Room width (y + 1) (lent colors coverages marks) ⌝ }
+    ensures { λ r. ⌜ DrewOn (paint .mode) (paint .combiner) (from (rowAt paint flat row edges width y) start end) colors coverages marks r ⌝ }
 {
+    let full = edges::full(edges, start, end);
+    let runs = flat & paint.even;
     let mut n: u64 = 0;
-    for x in start..end {
-        let mask = samples(edges, full, x);
-        n += draw_pixel(
+    let mut x = start;
+    while x < end {
+        let next = part_end(runs, full, x, end);
+        n += draw_part(
             colors,
             coverages,
             marks,
-            pen.mode,
-            pen.combiner,
-            pen.mixer,
-            pen.own,
-            pen.plain,
+            paint,
+            flat,
             row,
-            mask,
+            edges,
+            full,
             width,
             y,
             x,
+            next,
         );
+        x = next;
     }
     n
-}
-
-// The same where every pixel has the pen's own colour, whatever its shade alpha is.
-fn flat_span(
-    colors: &mut [u8],
-    coverages: &mut [u8],
-    marks: &mut [u8],
-    pen: Pen,
-    edges: Edges,
-    width: u32,
-    y: u32,
-    start: u32,
-    end: u32,
-) -> u64
-    requires { ⌜ (end ≤ width) × Even pen ⌝ ∗ ⌜ Room width (y + 1) (frameOf (now colors) (now coverages) (now marks)) ⌝ }
-    ensures { λ r. ⌜ ((shade : ℕ → Float) → Drew (pen .mode) (pen .combiner) (length (now (marks .entry))) (from (ownAt pen edges width y shade) start end) (frameOf (now (colors .entry)) (now (coverages .entry)) (now (marks .entry))) (frameOf (now (colors .exit)) (now (coverages .exit)) (now (marks .exit))) r) ⌝ }
-{
-    let mut n: u64 = 0;
-    for x in start..end {
-        let mask = edges::mask(edges, x);
-        n += own_pixel(colors, coverages, marks, pen, mask, width, y, x);
-    }
-    n
-}
-
-// A flat row: the full part is filled, and the samples of the pixels beside it are tested.
-pub fn flat_row(
-    colors: &mut [u8],
-    coverages: &mut [u8],
-    marks: &mut [u8],
-    pen: Pen,
-    edges: Edges,
-    full: Range,
-    width: u32,
-    y: u32,
-    start: u32,
-    end: u32,
-) -> u64
-    requires { ⌜ (end ≤ width) × Even pen ⌝ ∗ ⌜ Inner (allSamples edges) start end full ⌝ ∗ ⌜ Room width (y + 1) (frameOf (now colors) (now coverages) (now marks)) ⌝ }
-    ensures { λ r. ⌜ ((shade : ℕ → Float) → Drew (pen .mode) (pen .combiner) (length (now (marks .entry))) (from (ownAt pen edges width y shade) start end) (frameOf (now (colors .entry)) (now (coverages .entry)) (now (marks .entry))) (frameOf (now (colors .exit)) (now (coverages .exit)) (now (marks .exit))) r) ⌝ }
-{
-    let from = full.start;
-    let to = full.end;
-    let before = flat_span(colors, coverages, marks, pen, edges, width, y, start, from);
-    let filled = fill_row(colors, coverages, marks, pen, width, y, from, to);
-    let after = flat_span(colors, coverages, marks, pen, edges, width, y, to, end);
-    before + filled + after
 }

@@ -1,7 +1,8 @@
--- Laws of a list put together from parts: its next part, its length, and that parts with nothing in them may be left out at both ends.
+-- Laws of a list put together from parts: its next part, its length, two lists of parts one after the other, parts that are counted from elsewhere, and that parts with
+-- nothing in them may be left out at both ends.
 -- Assumes nothing.
 use mathlib.Core.Path.{_≡_, refl, sym, ap, subst, _∙_}
-use mathlib.Core.List.{List, [], _++_}
+use mathlib.Core.List.{List, [], _∷_, _++_}
 use Prim.Native.Nat.{ℕ, zero, suc, _+_, _-_, _*_, _≤_, _<_}
 use native.Mathlib.Nat.{suc-mul, add-zero}
 use native.Mathlib.Omega.{arith}
@@ -32,6 +33,53 @@ module _ {A : Type 0} (c : ℕ → List A) where
   unfolding parts
   parts-bound b h zero i = omega arith
   parts-bound b h (suc n) i = rw (length-append, suc-mul) (omega (arith, h i, parts-bound b h n (i + 1)))
+
+  -- the parts up to m, and those from there
+  assoc : (xs ys zs : List A) → (xs ++ ys) ++ zs ≡ xs ++ (ys ++ zs)
+  assoc [] ys zs = refl
+  assoc (x ∷ xs) ys zs = ap (λ (l : List A). x ∷ l) (assoc xs ys zs)
+
+  joined : (k a b : ℕ) → a + k ≤ b → from c a (a + k) ++ from c (a + k) b ≡ from c a b
+  joined zero a b h =
+      let still : a + 0 ≡ a = add-zero a in
+      (λ i. from-none a (a + 0) (omega arith) i ++ from c (still i) b)
+  joined (suc k) a b h =
+      let e : a + 1 + k ≡ a + suc k = omega arith in
+      (λ i. from-more a (a + suc k) (omega arith) i ++ from c (a + suc k) b)
+      ∙ assoc (c a) (from c (a + 1) (a + suc k)) (from c (a + suc k) b)
+      ∙ ap (λ (l : List A). c a ++ l) ((λ i. from c (a + 1) (sym e i) ++ from c (sym e i) b) ∙ joined k (a + 1) b (omega arith))
+      ∙ sym (from-more a b (omega arith))
+
+  pub from-join : (a m b : ℕ) → a ≤ m → m ≤ b → from c a m ++ from c m b ≡ from c a b
+  from-join a m b h k =
+      let e : a + (m - a) ≡ m = omega arith in
+      subst (λ (j : ℕ). from c a j ++ from c j b ≡ from c a b) e (joined (m - a) a b (omega arith))
+
+  -- one part
+  pub from-one : (i : ℕ) → from c i (i + 1) ≡ c i
+  from-one i = from-more i (i + 1) (omega arith) ∙ (λ j. c i ++ from-none (i + 1) (i + 1) (omega arith) j) ∙ none (c i)
+    where
+      none : (l : List A) → l ++ [] ≡ l
+      none [] = refl
+      none (x ∷ l) = ap (λ (t : List A). x ∷ t) (none l)
+
+  -- parts that are counted from d on
+  pub from-shift : (d a b : ℕ) → from (λ (i : ℕ). c (d + i)) a b ≡ from c (d + a) (d + b)
+  unfolding parts
+  from-shift d a b = let e : d + b - (d + a) ≡ b - a = omega arith in go (b - a) a ∙ (λ i. parts c (sym e i) (d + a))
+    where
+      go : (n i : ℕ) → parts (λ (j : ℕ). c (d + j)) n i ≡ parts c n (d + i)
+      go zero i = refl
+      go (suc n) i = let e : d + (i + 1) ≡ d + i + 1 = omega arith in (λ j. c (d + i) ++ (go n (i + 1) ∙ (λ k. parts c n (e k))) j)
+
+  -- parts that are the same
+  pub from-same : (d : ℕ → List A) (a b : ℕ) → ((i : ℕ) → a ≤ i → i < b → c i ≡ d i) → from c a b ≡ from d a b
+  unfolding parts
+  from-same d a b h = go (b - a) a (λ i p q. h i p (omega arith))
+    where
+      go : (n i : ℕ) → ((j : ℕ) → i ≤ j → j < i + n → c j ≡ d j) → parts c n i ≡ parts d n i
+      go zero i s = refl
+      go (suc n) i s = λ j. s i (omega arith) (omega arith) j ++ go n (i + 1) (λ k p q. s k (omega arith) (omega arith)) j
 
   -- k empty parts in front
   skip : (k i b : ℕ) → ((j : ℕ) → i ≤ j → j < i + k → c j ≡ []) → i + k ≤ b → from c i b ≡ from c (i + k) b

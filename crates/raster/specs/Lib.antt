@@ -4,4 +4,3 @@ pub mod Ran
 pub mod Area
 pub mod Admitted
 pub mod Emitted
-pub mod Fragments

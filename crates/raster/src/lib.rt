@@ -7,7 +7,6 @@ ghost use lib.ListN.{length};
 ghost use Rattle.raster.specs.Area.{Sized, areaOf};
 ghost use Rattle.raster.specs.Admitted.{triangleAt, failing, admittedOf};
 ghost use Rattle.raster.specs.Emitted.{shown, covered, cornerOf, triangleFragment, rectangleFragment};
-ghost use Rattle.raster.specs.Fragments.{coloredFragment};
 use checks::Looked;
 use combiner::Color;
 use combiner::Combiner;
@@ -208,21 +207,14 @@ pub fn triangle_pixel(
     with_color(mask, combiner.color(shade), shade.a)
 }
 
-// A pixel of a rectangle with these samples. Its colour is combined once, with the shade 1.0.
-pub fn colored_pixel(antialias: bool, color: Color, mask: u8) -> Fragment
-    ensures { λ r. ⌜ r ≡ coloredFragment antialias color mask ⌝ }
-{
-    if !is_shown(antialias, mask) {
-        return Fragment::Empty;
-    }
-    with_color(mask, color, 1.0)
-}
-
-// Pixel (x, y) of a rectangle.
+// Pixel (x, y) of a rectangle. Its colour is combined once, with the shade 1.0.
 pub fn rectangle_pixel(antialias: bool, color: Color, sides: Sides, y: u32, x: u32) -> Fragment
     requires { ⌜ (x < 1024) × (y < 1024) ⌝ }
     ensures { λ r. ⌜ r ≡ rectangleFragment antialias color sides y x ⌝ }
 {
     let mask = sides.mask(x, y);
-    colored_pixel(antialias, color, mask)
+    if !is_shown(antialias, mask) {
+        return Fragment::Empty;
+    }
+    with_color(mask, color, 1.0)
 }

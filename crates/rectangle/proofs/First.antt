@@ -2,10 +2,10 @@
 -- Assumes nothing.
 use mathlib.Core.Path.{_≡_, refl, sym, ap, _∙_, subst⁻¹}
 use Prim.Native.Nat.{ℕ, zero, suc, _+_, _*_, _≤_, _<_, min}
-use native.Mathlib.Nat.{mul-one, mul-assoc, add-mul, le-div-iff-mul-le, div-lt-iff-lt-mul}
+use native.Mathlib.Nat.{mul-one, mul-assoc, add-mul, le-div-iff-mul-le, div-lt-iff-lt-mul, mul-le-mul-right}
 use native.Mathlib.Omega.{arith}
 use mathlib.Core.Bool.{Bool, true, false, not, cond, _&&_, _||_}
-use borrow.Author.Tests.{lt-ltb, le-ltb, lt-leb, le-leb, ltb-true, ltb-false, ne-eqb}
+use borrow.Author.Tests.{lt-ltb, le-ltb, lt-leb, le-leb, ltb-true, ltb-false, eq-eqb, ne-eqb}
 use lib.Dec.{T, ltb, leb, eqb}
 use lib.IntN.{pos, negℤ}
 use lib.Ieee.{Float, nan, inf, fin, up, down, lt, le, ne}
@@ -16,7 +16,22 @@ use Rattle.edge.specs.Bound.{clampOf}
 use Rattle.edge.proofs.Clamped.{clamp-in}
 use Rattle.rectangle.specs.Rectangle.{quarters}
 use Rattle.rectangle.specs.Outline.{Before, From}
-use Rattle.rectangle.proofs.Inside.{times, of-le, neg-le}
+
+-- ---- `le`
+-- a ≤ b, as it tests it
+of-le : (a b : ℕ) (s : Bool) → ltb a b ≡ s → a ≤ b → s || (eqb a b && true) ≡ true
+of-le a b true p h = refl
+of-le a b false p h = λ i. eq-eqb a b (omega (arith, ltb-false a b p)) i && true
+
+-- a number that is not positive is at most one that is not negative
+neg-le : (a b : ℕ) (s : Bool) → ltb 0 (a + b) ≡ s → s || (eqb a b && eqb a 0) ≡ true
+neg-le a b true p = refl
+neg-le a b false p =
+    let z = ltb-false 0 (a + b) p in
+    λ i. eq-eqb a b (omega arith) i && eq-eqb a 0 (omega arith) i
+
+times : (m n d : ℕ) → m ≤ n → m * 1 * d ≤ n * 1 * d
+times m n d h = mul-le-mul-right d (omega arith)
 
 -- ---- a / d in whole numbers
 module _ (a d : ℕ) (D : 0 < d) where

@@ -17,7 +17,10 @@ use Rattle.edges.specs.Sample.{bitOf, inside, sampleAt, twoOf, pairOf, maskOf}
 use Rattle.rectangle.specs.declared.Sides.{Sides}
 use Rattle.rectangle.specs.Rectangle.{quarters, sampleX, sampleY, insideOf, sampleBit, rowBits, rectMask}
 use Rattle.rectangle.specs.Outline.{Before, From, uprightOf, Outlines}
-use Rattle.rectangle.proofs.Outside.{and-false}
+
+and-false : (b : Bool) → b && false ≡ false
+and-false true = refl
+and-false false = refl
 
 -- ---- an upright edge
 upright-tame : (q : ℕ) → q ≤ 4096 → Tame (uprightOf q)

@@ -1,5 +1,4 @@
 -- The definitions that the contracts of `rectangle` cite.
 pub mod Rectangle
 pub mod Axes
-pub mod Window
 pub mod Outline

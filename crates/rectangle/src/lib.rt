@@ -1,16 +1,12 @@
-// The rectangle of writeback.rs `rasterize`: which of a pixel's eight samples it holds, which columns and rows it can
-// touch, and its edges as those of a triangle. A side is any f32, a NaN or an infinity too.
+// The rectangle of writeback.rs `rasterize`: which of a pixel's eight samples it holds, and its edges as those of a triangle. A side is any f32, a NaN or an
+// infinity too.
 ghost use mathlib.Core.Path.{_≡_};
-ghost use Prim.Native.Nat.{_<_, _≤_, min, max};
+ghost use Prim.Native.Nat.{_<_, _≤_};
 ghost use Rattle.rectangle.specs.Rectangle.{withinOf, rectMask};
 ghost use Rattle.rectangle.specs.Axes.{quarterBit, placedAt, bitsOfColumn, bitsOfRow};
-ghost use Rattle.rectangle.specs.Window.{Untouched, EmptyColumn, EmptyRow, Filled, FullColumn};
 ghost use Rattle.rectangle.specs.Outline.{Before, From, uprightOf, Outlines};
-ghost use Rattle.range.specs.Kept.{Kept};
-ghost use Rattle.range.specs.Inner.{Inner};
 use edge::Edge;
 use edges::Tri;
-use range::Range;
 
 pub struct Sides {
     pub left: f32,
@@ -50,52 +46,6 @@ fn placed(low: f32, high: f32, n: u32, a: u8, b: u8, c: u8, apart: u8) -> u8
     let s = quarter(low, high, n, 3);
     let lower = (p << a) | (q << b) | (r << c) | s;
     (lower << apart) | lower
-}
-
-// n, but at least a and at most b.
-fn clamp(n: usize, a: u32, b: u32) -> u32
-    requires { ⌜ a ≤ b ⌝ }
-    ensures { λ r. ⌜ r ≡ max a (min n b) ⌝ }
-{
-    let least = a as usize;
-    let most = b as usize;
-    if n < least {
-        return a;
-    }
-    if n < most {
-        return n as u32;
-    }
-    b
-}
-
-// The part of a..b between two sides of one axis, from the lower one's floor to the upper one's ceiling. Where the Rust's
-// range would end before it starts, this one is empty too, and ends where it starts.
-fn axis(low: f32, high: f32, a: u32, b: u32) -> Range
-    requires { ⌜ (a ≤ b) × (b ≤ 1024) ⌝ }
-    ensures { λ r. ⌜ Kept (Untouched low high) a b r ⌝ }
-{
-    let start = clamp(num::floor_index(low), a, b);
-    let end = clamp(num::ceil_index(high), start, b);
-    Range { start, end }
-}
-
-// The part of a..b whose pixels lie whole between two sides of one axis. Pixel n does so if low ≤ n and n + 0.75 < high: that is asked of the first and
-// the last one, and holds between them.
-fn inner(low: f32, high: f32, a: u32, b: u32) -> Range
-    requires { ⌜ (a ≤ b) × (b ≤ 1024) ⌝ }
-    ensures { λ r. ⌜ Inner (Filled low high) a b r ⌝ }
-{
-    let start = clamp(num::ceil_index(low), a, b);
-    let end = clamp(num::ceil_index(high - 0.75), start, b);
-    if start < end {
-        let last = end - 1;
-        let first_in = quarter(low, high, start, 0);
-        let last_in = quarter(low, high, last, 3);
-        if first_in + last_in == 2 {
-            return Range { start, end };
-        }
-    }
-    Range { start: a, end: a }
 }
 
 // How many of an axis's quarters, 0 to 4095, lie before the side: none, if it is a NaN. The nearest one is no further off than half a quarter, so that it is
@@ -171,29 +121,5 @@ impl Sides {
         ensures { λ r. ⌜ r ≡ rectMask self x y ⌝ }
     {
         self.column_bits(x) & self.row_bits(y)
-    }
-
-    // The part of the columns x0..x1 that can have a sample.
-    pub fn columns(self, x0: u32, x1: u32) -> Range
-        requires { ⌜ (x0 ≤ x1) × (x1 ≤ 1024) ⌝ }
-        ensures { λ r. ⌜ Kept (EmptyColumn self) x0 x1 r ⌝ }
-    {
-        axis(self.left, self.right, x0, x1)
-    }
-
-    // The part of the rows y0..y1 that can have a sample.
-    pub fn rows(self, y0: u32, y1: u32) -> Range
-        requires { ⌜ (y0 ≤ y1) × (y1 ≤ 1024) ⌝ }
-        ensures { λ r. ⌜ Kept (EmptyRow self) y0 y1 r ⌝ }
-    {
-        axis(self.top, self.bottom, y0, y1)
-    }
-
-    // The part of the columns x0..x1 that lies whole between the left and right sides.
-    pub fn full_columns(self, x0: u32, x1: u32) -> Range
-        requires { ⌜ (x0 ≤ x1) × (x1 ≤ 1024) ⌝ }
-        ensures { λ r. ⌜ Inner (FullColumn self) x0 x1 r ⌝ }
-    {
-        inner(self.left, self.right, x0, x1)
     }
 }

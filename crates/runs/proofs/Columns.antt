@@ -10,7 +10,7 @@ use lib.Dec.{eqb, leb}
 use lib.ListN.{length, getD}
 use Rattle.cell.specs.declared.Cell.{Cell}
 use Rattle.cell.specs.Marks.{colorMarked, coverageMarked, coverageOf}
-use Rattle.cell.specs.Rules.{orZero}
+use Rattle.blender.specs.Blend.{orZero}
 use Rattle.cell.proofs.Alike.{never}
 use Rattle.pack.specs.declared.FramebufferEncoding.{FramebufferEncoding}
 use Rattle.pack.specs.declared.Literal.the-variants.{Absent}

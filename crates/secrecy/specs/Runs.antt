@@ -2,14 +2,14 @@
 -- What is not known does not show. The sizes w and h are fixed with the frame; a list starts from any sizes and slices, also ones that numbers 1 to 3 refuse.
 use Prim.Native.Nat.{ℕ}
 use mathlib.Core.Path.{_≡_}
-use mathlib.Core.Bool.{Bool, cond, not, _&&_}
+use mathlib.Core.Bool.{Bool, cond}
 use mathlib.Core.List.{List, [], _∷_, _++_}
 use lib.Dec.{eqb}
 use lib.ListN.{getD}
 use Rattle.mode.specs.declared.RenderMode.{RenderMode}
 use Rattle.combiner.specs.declared.Combiner.{Combiner}
-use Rattle.cell.specs.Marks.{colorMarked, coverageOf}
-use Rattle.cell.specs.Rules.{ruleF1, ruleF2}
+use Rattle.cell.specs.Marks.{colorMarked}
+use Rattle.cell.specs.Rules.{knownAfter}
 use Rattle.raster.specs.Emitted.{Emit}
 use Rattle.frame.specs.Frame.{Frame, cellAt}
 use Rattle.frame.specs.Alike.{Alike}
@@ -62,12 +62,9 @@ module _ (w h : ℕ) where
 
 -- ---- what F1 and F2 said
 
--- the verdict on an emitted pixel, on the bytes just before it: F1 says yes, and F2 does not doubt it
+-- the verdict on an emitted pixel, on the bytes just before it: that of the rules
 abbrev pub verdictAt : RenderMode → Frame → Emit → Bool
-verdictAt mode f e =
-    let x = cellAt f (e .pixel) in
-    let coverage = coverageOf (x .mark) (x .coverage) in
-    ruleF1 mode (sourceOf e) coverage (colorMarked (x .mark)) && not (ruleF2 mode (sourceOf e) coverage)
+verdictAt mode f e = knownAfter mode (sourceOf e) (cellAt f (e .pixel))
 
 -- each emitted pixel of a list with its verdict, in order
 abbrev pub verdicts : RenderMode → Combiner → Frame → List Emit → List Said

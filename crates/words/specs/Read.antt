@@ -4,7 +4,7 @@ use mathlib.Core.Bool.{Bool, false, cond, not, _&&_, _||_}
 use lib.Dec.{ltb, eqb}
 use Rattle.cell.specs.declared.Cell.{Cell}
 use Rattle.cell.specs.Marks.{colorMarked, coverageMarked, coverageOf}
-use Rattle.cell.specs.Rules.{orZero}
+use Rattle.blender.specs.Blend.{orZero}
 use Rattle.pack.specs.declared.Bytes2.{Bytes2}
 use Rattle.pack.specs.declared.FramebufferEncoding.{FramebufferEncoding}
 use Rattle.pack.specs.declared.Literal.the-variants.{Absent}

@@ -19,11 +19,11 @@ use Rattle.blender.proofs.blend.Tie as tie
 decode-mux-requires : tie.Need-decode-mux-requires
 decode-mux-requires c κs = search needs
 
-source-requires : tie.Need-source-requires
-source-requires c κs = search needs
+input-requires : tie.Need-input-requires
+input-requires c κs = search needs
 
-source-requires-2 : tie.Need-source-requires-2
-source-requires-2 c κs = search needs
+input-requires-2 : tie.Need-input-requires-2
+input-requires-2 c κs = search needs
 
 factor-a-requires : tie.Need-factor-a-requires
 factor-a-requires c κs = search needs
@@ -64,8 +64,8 @@ returns c =
     let d = sp .before in
     let s = d .before .args in
     assembled (s .mode) (s .combiner) (s .rgba) (s .memory) (s .shade-alpha) (s .count) (s .coverage)
-    (d .decode-mux .ensures) (sp .source .ensures) (sm .source2 .ensures) (fa .factor-a .ensures) (fb .factor-b .ensures)
+    (d .decode-mux .ensures) (sp .input .ensures) (sm .input2 .ensures) (fa .factor-a .ensures) (fb .factor-b .ensures)
     (stands .stands-alone .ensures) (c .in-bytes .ensures)
 
 pub blend-spec : {M : Type 1} → statement M
-blend-spec = tie.close (tie.spec decode-mux-requires source-requires source-requires-2 factor-a-requires factor-b-requires stands-alone-requires in-bytes-requires returns)
+blend-spec = tie.close (tie.spec decode-mux-requires input-requires input-requires-2 factor-a-requires factor-b-requires stands-alone-requires in-bytes-requires returns)

@@ -1,10 +1,10 @@
--- `cell::memory_of` meets its contract: the three bytes as floats, or zeros. Assumes nothing.
-use borrow.Author.Needs.{needs}
+-- `memory_of` meets its contract: the three bytes as floats, or nothing. Assumes nothing.
 use lib.Ieee.{ofBits}
 use mathlib.Core.Path.{sym}
 use mathlib.Core.Bool.{cond}
 use Rattle.num.specs.Color.{f0}
 use Rattle.cell.specs.Rules.{memoryOf}
+use borrow.Author.Needs.{needs}
 use Rattle.cell.proofs.memory_of.Statement.{statement}
 use Rattle.cell.proofs.memory_of.Tie as tie
 
@@ -20,14 +20,16 @@ unit-of-requires-3 c κs = search needs
 returns : tie.Need-returns
 unfolding memoryOf ofBits
 returns c =
+    let yes = sym (c .before .before .before .if1 .taken) in
     let r = c .before .before .unit-of .ensures in
     let g = c .before .unit-of2 .ensures in
     let b = c .unit-of3 .ensures in
-    λ i. cond (sym (c .before .before .before .if1 .taken) i) (record { r = r i; g = g i; b = b i; a = f0 }) (record { r = f0; g = f0; b = f0; a = f0 })
+    (yes, λ i. cond (yes i) (record { r = r i; g = g i; b = b i; a = f0 }) (record { r = f0; g = f0; b = f0; a = f0 }))
 
 returns-2 : tie.Need-returns-2
-unfolding memoryOf ofBits
-returns-2 c = simp (c .if1 .left)
+unfolding memoryOf
+returns-2 c = let no = sym (c .if1 .left) in (no, λ i. memoryOf (no i) (c .before .args .cell))
 
 pub memory-of-spec : {M : Type 1} → statement M
-memory-of-spec = tie.close (tie.spec unit-of-requires unit-of-requires-2 unit-of-requires-3 returns returns-2)
+memory-of-spec =
+    tie.close (tie.spec unit-of-requires unit-of-requires-2 unit-of-requires-3 returns returns-2)

@@ -4,7 +4,8 @@ use Prim.Native.Nat.{_≤_}
 use mathlib.Core.Path.{sym, ap, subst, _∙_}
 use Rattle.blender.specs.declared.Coverage.{Coverage}
 use Rattle.blender.specs.declared.Coverage.the-variants.{Known}
-use Rattle.cell.specs.Rules.{orZero, ruleF5}
+use Rattle.cell.specs.Rules.{ruleF5}
+use Rattle.blender.specs.Blend.{orZero}
 use Rattle.cell.proofs.next_coverage.Statement.{statement}
 use Rattle.cell.proofs.next_coverage.Tie as tie
 

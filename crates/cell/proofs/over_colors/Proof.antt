@@ -1,5 +1,5 @@
 -- `cell::over_colors` meets its contract, channel by channel. Assumes nothing.
-use Rattle.cell.specs.Own.{overColors}
+use Rattle.cell.specs.Coloring.{overColors}
 use borrow.Author.Needs.{needs}
 use Rattle.cell.proofs.over_colors.Statement.{statement}
 use Rattle.cell.proofs.over_colors.Tie as tie

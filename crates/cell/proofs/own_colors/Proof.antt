@@ -2,7 +2,7 @@
 use borrow.Author.Needs.{needs}
 use mathlib.Core.Path.{_∙_}
 use Rattle.num.specs.Whole.{byteOf}
-use Rattle.cell.specs.Own.{ownColors}
+use Rattle.cell.specs.Coloring.{ownColors}
 use Rattle.cell.proofs.own_colors.Statement.{statement}
 use Rattle.cell.proofs.own_colors.Tie as tie
 

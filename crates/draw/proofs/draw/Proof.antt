@@ -15,8 +15,8 @@ enum-known-number c = search needs
 enum-known-combiner : tie.Need-enum-known-combiner
 enum-known-combiner c = search needs
 
-draw-geometry-requires : tie.Need-draw-geometry-requires
-draw-geometry-requires c κs =
+rasterize-requires : tie.Need-rasterize-requires
+rasterize-requires c κs =
     let a = c .before .before .before .before .before .before .before .before .before .before .before .before .before .before .before .before .args in
     drawable (drawArgs (a .mode) (a .uniform) (a .cull) (a .scissor) (a .geometry) (now (a .vertices)) (now (a .present)) (now (a .indices))) _ _ _ _
     (c .before .before .before .before .before .before .accept .ensures) (c .before .before .before .before .combiner .given .1)
@@ -43,7 +43,7 @@ same-length-6 : tie.Need-same-length-6
 same-length-6 c = search needs
 
 returns-2 : tie.Need-returns-2
-returns-2 c = draw-accepted _ _ _ _ _ (c .before .before .before .before .before .before .before .before .before .before .before .before .before .accept .ensures) (c .before .before .before .before .before .before .before .before .before .before .before .combiner .given .1) (c .before .before .before .before .before .before .draw-geometry .ensures)
+returns-2 c = draw-accepted _ _ _ _ _ (c .before .before .before .before .before .before .before .before .before .before .before .before .before .accept .ensures) (c .before .before .before .before .before .before .before .before .before .before .before .combiner .given .1) (c .before .before .before .before .before .before .rasterize .ensures)
 
 pub draw-spec : {M : Type 1} → statement M
 draw-spec =
@@ -52,7 +52,7 @@ draw-spec =
     accept-requires
     enum-known-number
     enum-known-combiner
-    draw-geometry-requires
+    rasterize-requires
     same-length
     same-length-2
     same-length-3

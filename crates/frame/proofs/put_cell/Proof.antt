@@ -1,16 +1,12 @@
 -- `put_cell` meets its contract: each byte through the mark. Assumes nothing.
+use mathlib.Core.Path.{_∙_}
+use denote.Ref.{now}
+use Rattle.cell.specs.Rules.{ruleF4}
+use Rattle.frame.specs.Frame.{frameOf}
+use Rattle.frame.specs.Fits.{storedAt}
 use borrow.Author.Needs.{needs}
 use Rattle.frame.proofs.put_cell.Statement.{statement}
 use Rattle.frame.proofs.put_cell.Tie as tie
-
-mul-at : tie.Need-mul-at
-mul-at c = search needs
-
-add-green-at : tie.Need-add-green-at
-add-green-at c = search needs
-
-add-blue-at : tie.Need-add-blue-at
-add-blue-at c = search needs
 
 color-marked-requires : tie.Need-color-marked-requires
 color-marked-requires c κs = search needs
@@ -18,20 +14,8 @@ color-marked-requires c κs = search needs
 coverage-marked-requires : tie.Need-coverage-marked-requires
 coverage-marked-requires c κs = search needs
 
-put-byte-requires : tie.Need-put-byte-requires
-put-byte-requires c κs = search needs
-
-put-byte-requires-2 : tie.Need-put-byte-requires-2
-put-byte-requires-2 c κs = search needs
-
-put-byte-requires-3 : tie.Need-put-byte-requires-3
-put-byte-requires-3 c κs = search needs
-
-put-byte-requires-4 : tie.Need-put-byte-requires-4
-put-byte-requires-4 c κs = search needs
-
-slice-write-marks : tie.Need-slice-write-marks
-slice-write-marks c = search needs
+store-requires : tie.Need-store-requires
+store-requires c κs = search needs
 
 same-length : tie.Need-same-length
 same-length c = search needs
@@ -43,22 +27,21 @@ same-length-3 : tie.Need-same-length-3
 same-length-3 c = search needs
 
 returns : tie.Need-returns
-returns c = cc
+returns c =
+    let d = c .before .before .before .before .before .before in
+    let m = d .before .before .before .before in
+    let a = m .before .before .before .before .before .args in
+    let f = frameOf (now (a .colors)) (now (a .coverages)) (now (a .marks)) in
+    d .store .ensures
+    ∙ (λ i. storedAt f (a .pixel) (m .before .color-marked .ensures i) (ruleF4 (a .cell)) (m .coverage-marked .ensures i) (a .cell .coverage) (a .cell .mark))
 
 pub put-cell-spec : {M : Type 1} → statement M
 put-cell-spec =
     tie.close
     (tie.spec
-    mul-at
-    add-green-at
-    add-blue-at
     color-marked-requires
     coverage-marked-requires
-    put-byte-requires
-    put-byte-requires-2
-    put-byte-requires-3
-    put-byte-requires-4
-    slice-write-marks
+    store-requires
     same-length
     same-length-2
     same-length-3

@@ -1,7 +1,7 @@
--- `fill_pixel` meets its contract: the colour where the pixel is opaque or the coverage known. Assumes nothing.
+-- `fill_pixel` meets its contract: the colours where they are known, 7 where the coverage becomes that, and the mark of both (`filled`). Assumes nothing.
 use denote.Ref.{now}
 use Rattle.frame.specs.Frame.{frameOf}
-use Rattle.paint.proofs.Fills.{filled-pixel}
+use Rattle.paint.proofs.Filled.{filled}
 use borrow.Author.Needs.{needs}
 use Rattle.paint.proofs.fill.fill_pixel.Statement.{statement}
 use Rattle.paint.proofs.fill.fill_pixel.Tie as tie
@@ -12,8 +12,20 @@ slice-read-mark c = search needs
 coverage-marked-requires : tie.Need-coverage-marked-requires
 coverage-marked-requires c κs = search needs
 
-put-full-requires : tie.Need-put-full-requires
-put-full-requires c κs = search needs
+full-known-requires : tie.Need-full-known-requires
+full-known-requires c κs = search needs
+
+full-colors-requires : tie.Need-full-colors-requires
+full-colors-requires c κs = search needs
+
+stores-seven-requires : tie.Need-stores-seven-requires
+stores-seven-requires c κs = search needs
+
+mark-of-requires : tie.Need-mark-of-requires
+mark-of-requires c κs = search needs
+
+store-requires : tie.Need-store-requires
+store-requires c κs = search needs
 
 same-length : tie.Need-same-length
 same-length c = search needs
@@ -26,9 +38,13 @@ same-length-3 c = search needs
 
 returns : tie.Need-returns
 returns c =
-    let s = c .before .before .before .before .before .before .before .before .before .before .before .before .before .before .before in
+    let st = c .before .before .before .before .before .before in
+    let mk = st .before .before .before .before in
+    let fc = mk .before .before .before in
+    let fk = fc .before .before .before in
+    let s = fk .before .before .before .before .before .before in
     let a = s .args in
-    filled-pixel (a .opaque) (a .seven) (a .sets) (a .own) (frameOf (now (a .colors)) (now (a .coverages)) (now (a .marks))) (a .pixel) (c .before .before .before .before .before .before .before .before .before .before .coverage-marked .ensures) (c .before .before .before .before .before .before .put-full .ensures)
+    filled (a .full) (frameOf (now (a .colors)) (now (a .coverages)) (now (a .marks))) (a .pixel) (s .pre .0) (s .pre .1) (fk .before .coverage-marked .ensures) (fk .full-known .ensures) (fc .full-colors .ensures) (mk .before .before .stores-seven .ensures) (mk .mark-of .ensures) (st .store .ensures)
 
 pub fill-pixel-spec : {M : Type 1} → statement M
 fill-pixel-spec =
@@ -36,7 +52,11 @@ fill-pixel-spec =
     (tie.spec
     slice-read-mark
     coverage-marked-requires
-    put-full-requires
+    full-known-requires
+    full-colors-requires
+    stores-seven-requires
+    mark-of-requires
+    store-requires
     same-length
     same-length-2
     same-length-3

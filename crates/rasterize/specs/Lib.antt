@@ -1,0 +1,3 @@
+-- The definitions that the contracts of `rasterize` cite.
+pub mod Shape
+pub mod Triangles

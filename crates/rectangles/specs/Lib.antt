@@ -1,2 +1,0 @@
--- The definitions that the contracts of `rectangles` cite.
-pub mod Parts

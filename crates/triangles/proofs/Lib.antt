@@ -1,3 +1,0 @@
--- Laws of triangles, which the proofs of functions share.
-pub mod Shapes
-pub mod Spans

@@ -1,2 +1,0 @@
--- The definitions that the contracts of `triangles` cite.
-pub mod Parts
