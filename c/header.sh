@@ -35,7 +35,7 @@ structs() {
     grep -oE '#\[repr\(C\)\] (#\[derive\([^)]*\)\] )?pub struct \w+ \{[^}]*\}' |
         sed -E 's/.* struct (\w+) \{ (.*) \}/\1: \2/; s/pub (\w+): \[(\w+); ([0-9]+)\], ?/\2 \1[\3]; /g; s/pub (\w+): (\w+), ?/\2 \1; /g; s/ +$//' | c_types
 }
-rattle_structs() { plain_text crates/{mode,raster,c_types,c_answers,c_draw,c_frame}/src/*.rt | structs; }
+rattle_structs() { plain_text crates/{state,raster_pixel,c_types,c_answers,c_draw,c_frame}/src/*.rt | structs; }
 rust_structs() { plain_text ffi/src/lib.rs | structs; }
 header_structs() {
     header_text | grep -oE 'typedef struct \{[^}]*\} \w+;' |

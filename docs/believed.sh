@@ -175,7 +175,7 @@ END {
             for (i = 1; i <= n; i++) root(part[i])
         }
     }
-    root("secrecy/Runs/Secret"); root("frame/Alike/Alike"); root("table/Table/table"); root("table/Table/Holds"); root("pack/Depth/Within"); root("frame/Loads/ColorKnown"); root("frame/Loads/CoverageKnown"); root("frame/Loads/Loadable")
+    root("theorem_secrecy/Runs/Secret"); root("frame/Alike/Alike"); root("theorem_values/Table/table"); root("theorem_values/Table/Holds"); root("words_pack/Depth/Within"); root("frame/Loads/ColorKnown"); root("frame/Loads/CoverageKnown"); root("frame/Loads/Loadable")
     for (at = 1; at <= last; at++) { n = split(cited[queue[at]], part, " "); for (i = 1; i <= n; i++) root(part[i]) }
 
     for (i = 1; i <= file_count; i++) {

@@ -3,7 +3,7 @@ use mathlib.Core.Path.{_≡_}
 use Prim.Native.Nat.{ℕ}
 use mathlib.Core.Bool.{Bool, true, false, cond, not, _||_}
 use lib.Ieee.{Float}
-use Rattle.mode.specs.declared.RenderMode.{RenderMode}
+use Rattle.state.specs.declared.RenderMode.{RenderMode}
 use Rattle.blender.specs.declared.Coverage.the-variants.{Known}
 use Rattle.blender.specs.Mux.{muxOf}
 use Rattle.blender.specs.Coverage.{blends}

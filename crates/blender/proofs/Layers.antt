@@ -8,10 +8,10 @@ use borrow.Author.Tests.{eqb-true, le-leb}
 use lib.Dec.{eqb}
 use lib.IntN.{pos}
 use lib.Ieee.{Float, binary32, ofInt, add, sub, mul, div}
-use Rattle.num.specs.Color.{f0, f1}
-use Rattle.num.specs.Whole.{byteOf}
-use Rattle.mode.specs.declared.RenderMode.{RenderMode}
-use Rattle.mode.specs.declared.Rgba.{Rgba}
+use Rattle.num_float.specs.Color.{f0, f1}
+use Rattle.num_float.specs.Whole.{byteOf}
+use Rattle.state.specs.declared.RenderMode.{RenderMode}
+use Rattle.state.specs.declared.Rgba.{Rgba}
 use Rattle.combiner.specs.declared.Combiner.{Combiner}
 use Rattle.blender.specs.declared.Coverage.{Coverage}
 use Rattle.blender.specs.declared.Coverage.the-variants.{Unknown, Known}

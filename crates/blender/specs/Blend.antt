@@ -5,10 +5,10 @@ use Prim.Native.Nat.{ℕ}
 use mathlib.Core.Bool.{Bool, false, cond}
 use lib.IntN.{pos}
 use lib.Ieee.{Float, fin, ofInt, binary32, lt, add, sub, mul, div}
-use Rattle.num.specs.Color.{f0, f1}
-use Rattle.num.specs.Whole.{f255, byteOf}
-use Rattle.mode.specs.declared.RenderMode.{RenderMode}
-use Rattle.mode.specs.declared.Rgba.{Rgba}
+use Rattle.num_float.specs.Color.{f0, f1}
+use Rattle.num_float.specs.Whole.{f255, byteOf}
+use Rattle.state.specs.declared.RenderMode.{RenderMode}
+use Rattle.state.specs.declared.Rgba.{Rgba}
 use Rattle.combiner.specs.declared.Combiner.{Combiner}
 use Rattle.blender.specs.declared.Bytes.{Bytes}
 use Rattle.blender.specs.declared.Coverage.{Coverage}

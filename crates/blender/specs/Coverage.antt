@@ -4,7 +4,7 @@
 use Prim.Native.Nat.{ℕ, _+_, _-_, _%_, min}
 use mathlib.Core.Bool.{Bool, false, cond, not, _&&_, _||_}
 use lib.Dec.{leb}
-use Rattle.mode.specs.declared.RenderMode.{RenderMode}
+use Rattle.state.specs.declared.RenderMode.{RenderMode}
 use Rattle.blender.specs.declared.Coverage.{Coverage}
 use Rattle.blender.specs.declared.Coverage.the-variants.{Unknown, Known}
 use Rattle.blender.specs.Mux.{pick}

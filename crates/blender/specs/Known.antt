@@ -4,8 +4,8 @@ use Prim.Native.Nat.{ℕ}
 use mathlib.Core.Bool.{Bool, true, false, cond, not, _&&_, _||_}
 use lib.Dec.{eqb}
 use lib.Ieee.{Float, le}
-use Rattle.num.specs.Color.{f1}
-use Rattle.mode.specs.declared.RenderMode.{RenderMode}
+use Rattle.num_float.specs.Color.{f1}
+use Rattle.state.specs.declared.RenderMode.{RenderMode}
 use Rattle.blender.specs.declared.Coverage.{Coverage}
 use Rattle.blender.specs.declared.Coverage.the-variants.{Unknown, Known}
 use Rattle.blender.specs.Mux.{muxOf}

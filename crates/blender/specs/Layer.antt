@@ -3,9 +3,9 @@
 use mathlib.Core.Bool.{Bool, not, _&&_, _||_}
 use lib.Dec.{eqb}
 use lib.Ieee.{Float, binary32, mul}
-use Rattle.num.specs.Color.{f0}
-use Rattle.mode.specs.declared.RenderMode.{RenderMode}
-use Rattle.mode.specs.declared.Rgba.{Rgba}
+use Rattle.num_float.specs.Color.{f0}
+use Rattle.state.specs.declared.RenderMode.{RenderMode}
+use Rattle.state.specs.declared.Rgba.{Rgba}
 use Rattle.combiner.specs.declared.Combiner.{Combiner}
 use Rattle.blender.specs.declared.layer.Layer.{Layer}
 use Rattle.blender.specs.Mux.{muxOf}

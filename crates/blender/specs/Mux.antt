@@ -4,7 +4,7 @@
 use Prim.Native.Nat.{ℕ}
 use mathlib.Core.Bool.{cond}
 use lib.Dec.{eqb}
-use Rattle.bits.specs.Field.{field}
+use Rattle.num_bits.specs.Field.{field}
 use Rattle.blender.specs.declared.Mux.{Mux}
 
 -- P, A, M and B

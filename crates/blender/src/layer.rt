@@ -8,8 +8,8 @@ use crate::factor_b;
 use crate::own_color;
 use crate::rejects;
 use combiner::Combiner;
-use mode::RenderMode;
-use mode::Rgba;
+use state::RenderMode;
+use state::Rgba;
 
 // P times A in each channel, and B, the memory's share.
 pub struct Layer {

@@ -1,7 +1,7 @@
 // The blender of writeback.rs: how an emitted pixel meets the colour and the coverage in memory.
 use combiner::Combiner;
-use mode::RenderMode;
-use mode::Rgba;
+use state::RenderMode;
+use state::Rgba;
 ghost use mathlib.Core.Path.{_≡_};
 ghost use Prim.Native.Nat.{_≤_};
 ghost use Rattle.blender.specs.Mux.{muxOf};
@@ -33,7 +33,7 @@ pub enum Memory {
 }
 
 // What is stored of a pixel: red, green, blue and alpha, or that it cannot be told.
-pub enum Blended {
+pub enum Joined {
     Fallback,
     Stored(u8, u8, u8, u8),
 }
@@ -60,10 +60,10 @@ pub fn decode_mux(word: u16) -> Mux
 {
     let w = word as u32;
     Mux {
-        p: bits::bits(w, 14, 2),
-        a: bits::bits(w, 10, 2),
-        m: bits::bits(w, 6, 2),
-        b: bits::bits(w, 2, 2),
+        p: num_bits::bits(w, 14, 2),
+        a: num_bits::bits(w, 10, 2),
+        m: num_bits::bits(w, 6, 2),
+        b: num_bits::bits(w, 2, 2),
     }
 }
 
@@ -301,10 +301,10 @@ fn in_bytes(stands: bool, forced: bool, p: Rgba, a: f32, m: Rgba, b: f32, alpha:
     ensures { λ r. ⌜ r ≡ bytesOf stands forced p a m b alpha ⌝ }
 {
     Bytes {
-        r: num::byte_of(mixed(stands, forced, p.r, a, m.r, b)),
-        g: num::byte_of(mixed(stands, forced, p.g, a, m.g, b)),
-        b: num::byte_of(mixed(stands, forced, p.b, a, m.b, b)),
-        a: num::byte_of(alpha),
+        r: num_float::byte_of(mixed(stands, forced, p.r, a, m.r, b)),
+        g: num_float::byte_of(mixed(stands, forced, p.g, a, m.g, b)),
+        b: num_float::byte_of(mixed(stands, forced, p.b, a, m.b, b)),
+        a: num_float::byte_of(alpha),
     }
 }
 
@@ -368,13 +368,13 @@ pub fn blend_known(
     source: Source,
     coverage: Coverage,
     memory: Memory,
-) -> Blended
+) -> Joined
     ensures { λ r. ⌜ r ≡ joined mode combiner source coverage memory ⌝ }
 {
     let color = source.color;
     let known = is_known(memory);
     if !color_known(mode, color.a, source.count, coverage, known) {
-        return Blended::Fallback;
+        return Joined::Fallback;
     }
     let under = color_or_zeros(memory);
     let samples = coverage_or_zero(coverage);
@@ -387,5 +387,5 @@ pub fn blend_known(
         source.count,
         samples,
     );
-    Blended::Stored(bytes.r, bytes.g, bytes.b, bytes.a)
+    Joined::Stored(bytes.r, bytes.g, bytes.b, bytes.a)
 }

@@ -1,7 +1,7 @@
 -- A call's answer in C's struct is the one that its outcome means: the struct is made of the enum, and the enum means the outcome. Assumes nothing.
 use Prim.Native.Nat.{ℕ}
 use mathlib.Core.Path.{_≡_, sym, ap, _∙_}
-use Rattle.pixel.specs.Refusal.{Outcome}
+use Rattle.writeback_pixel.specs.Refusal.{Outcome}
 use Rattle.c_answers.specs.declared.Answer.{Answer}
 use Rattle.c_answers.specs.Answers.{answerOf}
 

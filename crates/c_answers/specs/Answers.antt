@@ -1,12 +1,12 @@
 -- To be believed. The C interface's answers: the number (docs/RULES.md) with the value as one word, and what the combiner gives. Definitions only.
 use Prim.Native.Nat.{ℕ, _+_, _*_}
 use mathlib.Core.Bool.{Bool, true, false}
-use Rattle.mode.specs.declared.Rgba.{Rgba}
+use Rattle.state.specs.declared.Rgba.{Rgba}
 use Rattle.combiner.specs.declared.Combiner.{Combiner}
 use Rattle.combiner.specs.Means.{Optional}
 use Rattle.blender.specs.declared.Bytes.{Bytes}
-use Rattle.pack.specs.declared.Bytes2.{Bytes2}
-use Rattle.pixel.specs.Refusal.{Outcome}
+use Rattle.words_pack.specs.declared.Bytes2.{Bytes2}
+use Rattle.writeback_pixel.specs.Refusal.{Outcome}
 use Rattle.c_answers.specs.declared.Answer.{Answer}
 use Rattle.c_answers.specs.declared.ColorAnswer.{ColorAnswer}
 use Rattle.c_answers.specs.declared.CombinerAnswer.{CombinerAnswer}

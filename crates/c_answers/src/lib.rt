@@ -1,7 +1,7 @@
 // The C interface's structs for answers, and the library's answers as these.
 ghost use mathlib.Core.Path.{_≡_};
-ghost use Rattle.pixel.specs.Refusal.{refused};
-ghost use Rattle.pixel.specs.Calls.{destinationMeans, answerMeans, blendMeans, packColorMeans, encodeMeans};
+ghost use Rattle.writeback_pixel.specs.Refusal.{refused};
+ghost use Rattle.writeback_pixel.specs.Calls.{destinationMeans, answerMeans, blendMeans, packColorMeans, encodeMeans};
 ghost use Rattle.combiner.specs.Means.{noColor, noCombiner, madeMeans, colorMeans, strictMeans};
 ghost use Rattle.c_types.specs.Convert.{partsOf};
 ghost use Rattle.c_answers.specs.Answers.{same, bit, fourBytes, twoBytes, answerOf, strictAnswer, colorAnswer, combinerAnswer};
@@ -10,11 +10,11 @@ use c_types::parts_of;
 use combiner::Color;
 use combiner::Made;
 use combiner::Strict;
-use mode::Rgba;
-use pixel::Blended;
-use pixel::Encoded;
-use pixel::Packed;
-use pixel::Stored;
+use state::Rgba;
+use writeback_pixel::Blended;
+use writeback_pixel::Encoded;
+use writeback_pixel::Packed;
+use writeback_pixel::Stored;
 
 // The number (docs/RULES.md) and the value: a coverage, 1 for yes, a word, or bytes with the first lowest.
 #[repr(C)]
@@ -59,19 +59,19 @@ pub fn turned_away() -> Answer
     }
 }
 
-pub fn yes_or_no(answer: pixel::Answer) -> Answer
+pub fn yes_or_no(answer: writeback_pixel::Answer) -> Answer
     ensures { λ r. ⌜ r ≡ answerOf bit (answerMeans answer) ⌝ }
 {
     match answer {
-        pixel::Answer::Yes => Answer {
+        writeback_pixel::Answer::Yes => Answer {
             number: 0,
             value: 1,
         },
-        pixel::Answer::No => Answer {
+        writeback_pixel::Answer::No => Answer {
             number: 0,
             value: 0,
         },
-        pixel::Answer::Refused => turned_away(),
+        writeback_pixel::Answer::Refused => turned_away(),
     }
 }
 

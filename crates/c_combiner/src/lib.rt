@@ -14,8 +14,8 @@ use c_types::Parts;
 use c_types::combiner_of;
 use c_types::render_mode;
 use combiner::Combiner;
-use mode::CombinerUniform;
-use mode::Rgba;
+use state::CombinerUniform;
+use state::Rgba;
 
 pub fn combiner_new(uniform: CombinerUniform, mode: Mode) -> CombinerAnswer
     ensures { λ r. ⌜ r ≡ combinerAnswer (newCall uniform (modeOf mode)) ⌝ }

@@ -3,14 +3,14 @@ use Prim.Native.Nat.{ℕ}
 use mathlib.Core.Bool.{Bool}
 use mathlib.Core.List.{List, [], _∷_}
 use lib.Ieee.{Float}
-use Rattle.num.specs.Color.{f0}
-use Rattle.raster.specs.declared.Fragment.{Fragment}
-use Rattle.raster.specs.declared.Fragment.the-variants.{Empty, Covered}
-use Rattle.raster.specs.declared.Geometry.{Geometry}
-use Rattle.raster.specs.declared.Geometry.the-variants.{Nothing, Triangles, Rectangle}
+use Rattle.num_float.specs.Color.{f0}
+use Rattle.raster_pixel.specs.declared.Fragment.{Fragment}
+use Rattle.raster_pixel.specs.declared.Fragment.the-variants.{Empty, Covered}
+use Rattle.raster_pixel.specs.declared.Geometry.{Geometry}
+use Rattle.raster_pixel.specs.declared.Geometry.the-variants.{Nothing, Triangles, Rectangle}
 use Rattle.c_draw.specs.declared.GeometryParts.{GeometryParts}
 use Rattle.c_draw.specs.declared.FragmentAnswer.{FragmentAnswer}
-use Rattle.probe.specs.Probe.{pixelProbe}
+use Rattle.c_emitted.specs.Probe.{pixelProbe}
 use Rattle.c_types.specs.declared.Mode.{Mode}
 use Rattle.c_types.specs.declared.Parts.{Parts}
 use Rattle.c_types.specs.Convert.{numbered, combinerFrom}

@@ -2,18 +2,18 @@
 // alpha, and one presence byte each; three indices name a triangle. Crate exports gives the calls their C names.
 ghost use mathlib.Core.Path.{_≡_};
 ghost use mathlib.Core.Bool.{_&&_};
-ghost use Rattle.vertex.specs.Range.{inRangeX, inRangeY};
-ghost use Rattle.raster.specs.Admitted.{admittedOf};
+ghost use Rattle.raster_vertex.specs.Range.{inRangeX, inRangeY};
+ghost use Rattle.raster_pixel.specs.Admitted.{admittedOf};
 ghost use Rattle.c_types.specs.Convert.{combinerFrom};
 ghost use Rattle.c_draw.specs.Draws.{geometryFrom, probeFrom, fragmentAnswer};
 use c_answers::no_color;
 use c_types::Mode;
 use c_types::Parts;
 use c_types::combiner_of;
-use mode::Rgba;
-use raster::Fragment;
-use raster::Geometry;
-use vertex::Vertex;
+use raster_pixel::Fragment;
+use raster_pixel::Geometry;
+use raster_vertex::Vertex;
+use state::Rgba;
 
 // What a draw covers: 0 nothing, 1 triangles, 2 the rectangle with these sides. A kind above 2 is nothing.
 #[repr(C)]
@@ -87,7 +87,7 @@ pub fn admitted(
 {
     let k = combiner_of(combiner);
     let g = geometry_of(geometry);
-    raster::admitted(k, g, vertices, present, indices)
+    raster_pixel::admitted(k, g, vertices, present, indices)
 }
 
 // Pixel (x, y) of triangle i, or of the rectangle.
@@ -107,7 +107,7 @@ pub fn pixel(
 {
     let k = combiner_of(combiner);
     let g = geometry_of(geometry);
-    emitted(probe::pixel(
+    emitted(c_emitted::pixel(
         mode.antialias,
         k,
         cull,

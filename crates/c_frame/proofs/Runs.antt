@@ -2,9 +2,9 @@
 use Prim.Native.Nat.{ℕ}
 use mathlib.Core.Path.{_≡_, refl, ap, _∙_}
 use mathlib.Core.List.{List, []}
-use Rattle.runs.specs.declared.Run.{Run}
-use Rattle.runs.specs.declared.Run.the-variants.{Read, Refused}
-use Rattle.runs.specs.Run.{RunAnswer, runMeans}
+use Rattle.words_run.specs.declared.Run.{Run}
+use Rattle.words_run.specs.declared.Run.the-variants.{Read, Refused}
+use Rattle.words_run.specs.Run.{RunAnswer, runMeans}
 use Rattle.c_frame.specs.declared.RanAnswer.{RanAnswer}
 use Rattle.c_frame.specs.Frames.{ranAnswer}
 

@@ -2,12 +2,12 @@
 use Prim.Native.Nat.{ℕ}
 use mathlib.Core.Bool.{Bool}
 use lib.Ieee.{Float}
-use Rattle.mode.specs.declared.CombinerUniform.{CombinerUniform}
-use Rattle.raster.specs.declared.Scissor.{Scissor}
+use Rattle.state.specs.declared.CombinerUniform.{CombinerUniform}
+use Rattle.raster_pixel.specs.declared.Scissor.{Scissor}
 use Rattle.frame.specs.Lent.{Slice}
-use Rattle.draw.specs.Draw.{DrawArgs, DrawAnswer, drawOf}
-use Rattle.words.specs.Read.{ReadArgs, WordAnswer, readArgs}
-use Rattle.runs.specs.Run.{RunAnswer}
+use Rattle.frame_draw.specs.Draw.{DrawArgs, DrawAnswer, drawOf}
+use Rattle.words_read.specs.Read.{ReadArgs, WordAnswer, readArgs}
+use Rattle.words_run.specs.Run.{RunAnswer}
 use Rattle.c_types.specs.declared.Mode.{Mode}
 use Rattle.c_types.specs.Convert.{modeOf, encodingOf}
 use Rattle.c_draw.specs.declared.GeometryParts.{GeometryParts}

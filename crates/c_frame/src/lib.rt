@@ -2,10 +2,10 @@
 // their C names.
 ghost use mathlib.Core.Path.{_≡_};
 ghost use Rattle.frame.specs.Lent.{old, new, before, after};
-ghost use Rattle.draw.specs.Draw.{drawnMeans, drawAnswer, drawFrame};
+ghost use Rattle.frame_draw.specs.Draw.{drawnMeans, drawAnswer, drawFrame};
 ghost use mathlib.Core.List.{[]};
-ghost use Rattle.words.specs.Read.{wordMeans, readAnswer};
-ghost use Rattle.runs.specs.Run.{runMeans, runAnswer};
+ghost use Rattle.words_read.specs.Read.{wordMeans, readAnswer};
+ghost use Rattle.words_run.specs.Run.{runMeans, runAnswer};
 ghost use Rattle.c_frame.specs.Frames.{drawFrom, readFrom, drawnAnswer, wordAnswer, ranAnswer};
 use c_answers::Answer;
 use c_draw::GeometryParts;
@@ -13,11 +13,11 @@ use c_draw::geometry_of;
 use c_types::Mode;
 use c_types::byte_order;
 use c_types::render_mode;
-use draw::Drawn;
-use mode::CombinerUniform;
-use raster::Scissor;
-use runs::Run;
-use words::Word;
+use frame_draw::Drawn;
+use raster_pixel::Scissor;
+use state::CombinerUniform;
+use words_read::Word;
+use words_run::Run;
 
 // The number (docs/RULES.md) and the count of pixels emitted, with repeats.
 #[repr(C)]
@@ -92,7 +92,7 @@ pub fn draw(
 {
     let m = render_mode(mode);
     let g = geometry_of(geometry);
-    let answer = draw::draw(
+    let answer = frame_draw::draw(
         width,
         height,
         colors,
@@ -125,7 +125,7 @@ pub fn read_word(
     ensures { λ r. ⌜ r ≡ wordAnswer (readAnswer (readFrom pixel fmt siz «rgb_dither» «big_endian») width height (before colors coverages marks)) ⌝ }
 {
     let order = byte_order(big_endian);
-    word(words::read_word(
+    word(words_read::read_word(
         width,
         height,
         colors,
@@ -158,7 +158,7 @@ pub fn read_words(
     ensures numbers { λ r. ⌜ new numbers ≡ runAnswer (readFrom first fmt siz «rgb_dither» «big_endian») width height (before colors coverages marks) (old words) (old numbers) .numbers ⌝ }
 {
     let order = byte_order(big_endian);
-    let answer = runs::read_words(
+    let answer = words_run::read_words(
         width,
         height,
         colors,

@@ -3,11 +3,11 @@ use Prim.Native.Nat.{ℕ, zero, suc, _*_, _/_, _^_, _≤_, max}
 use mathlib.Core.Path.{_≡_, refl}
 use mathlib.Core.Bool.{Bool, true, false}
 use native.Mathlib.Omega.{arith}
-use Rattle.pack.specs.declared.Writer.{Writer}
-use Rattle.pack.specs.Writer.{pixelBytesOf}
-use Rattle.pixel.specs.Refusal.{writerOk, checked}
-use Rattle.pixel.specs.Calls.{pixelBytesCall}
-use Rattle.pixel.proofs.Checked.{writers}
+use Rattle.words_pack.specs.declared.Writer.{Writer}
+use Rattle.words_pack.specs.Writer.{pixelBytesOf}
+use Rattle.writeback_pixel.specs.Refusal.{writerOk, checked}
+use Rattle.writeback_pixel.specs.Calls.{pixelBytesCall}
+use Rattle.writeback_pixel.proofs.Checked.{writers}
 
 small : (s : ℕ) → s ≤ 3 → max 1 (4 * 2 ^ s / 8) ≤ 4
 small zero h = omega arith

@@ -1,6 +1,6 @@
 // The C interface's single-pixel calls, over plain values. Crate exports gives them their C names.
 ghost use mathlib.Core.Path.{_≡_};
-ghost use Rattle.pixel.specs.Calls.{destinationCall, colorKnownCall, blendCall, packColorCall, supportedCall, pixelBytesCall, encodeCall};
+ghost use Rattle.writeback_pixel.specs.Calls.{destinationCall, colorKnownCall, blendCall, packColorCall, supportedCall, pixelBytesCall, encodeCall};
 ghost use Rattle.c_types.specs.Convert.{modeOf, combinerFrom, coverageOf, literalOf, encodingOf, writerOf, bytesFrom};
 ghost use Rattle.c_answers.specs.Answers.{same, bit, fourBytes, twoBytes, answerOf};
 use c_answers::Answer;
@@ -19,15 +19,15 @@ use c_types::image_writer;
 use c_types::literal_word;
 use c_types::memory_coverage;
 use c_types::render_mode;
-use mode::Rgba;
-use pixel::PixelBytes;
+use state::Rgba;
+use writeback_pixel::PixelBytes;
 
 // ---- the blender: writeback.rs
 
 pub fn destination(mode: Mode, count: u8, memory: u8) -> Answer
     ensures { λ r. ⌜ r ≡ answerOf same (destinationCall (modeOf mode) count memory) ⌝ }
 {
-    stored(pixel::destination(render_mode(mode), count, memory))
+    stored(writeback_pixel::destination(render_mode(mode), count, memory))
 }
 
 pub fn color_known(
@@ -41,7 +41,7 @@ pub fn color_known(
     ensures { λ r. ⌜ r ≡ answerOf bit (colorKnownCall (modeOf mode) alpha count (coverageOf known coverage) «memory_rgb») ⌝ }
 {
     let under = memory_coverage(known, coverage);
-    yes_or_no(pixel::color_known(render_mode(mode), alpha, count, under, memory_rgb))
+    yes_or_no(writeback_pixel::color_known(render_mode(mode), alpha, count, under, memory_rgb))
 }
 
 pub fn blend(
@@ -56,7 +56,7 @@ pub fn blend(
     ensures { λ r. ⌜ r ≡ answerOf fourBytes (blendCall (modeOf mode) (combinerFrom combiner) rgba memory «shade_alpha» count coverage) ⌝ }
 {
     let k = combiner_of(combiner);
-    blended(pixel::blend(
+    blended(writeback_pixel::blend(
         render_mode(mode),
         k,
         rgba,
@@ -72,19 +72,19 @@ pub fn blend(
 pub fn pack_color(rgba: u32, coverage: u8, dither: u8) -> Answer
     ensures { λ r. ⌜ r ≡ answerOf same (packColorCall (bytesFrom rgba) coverage dither) ⌝ }
 {
-    packed(pixel::pack_color(bytes_of_word(rgba), coverage, dither))
+    packed(writeback_pixel::pack_color(bytes_of_word(rgba), coverage, dither))
 }
 
 pub fn supported(fmt: u8, siz: u8, width: u32, depth: bool) -> Answer
     ensures { λ r. ⌜ r ≡ answerOf bit (supportedCall (writerOf fmt siz width depth)) ⌝ }
 {
-    yes_or_no(pixel::supported(image_writer(fmt, siz, width, depth)))
+    yes_or_no(writeback_pixel::supported(image_writer(fmt, siz, width, depth)))
 }
 
 pub fn pixel_bytes(fmt: u8, siz: u8, width: u32, depth: bool) -> Answer
     ensures { λ r. ⌜ r ≡ answerOf same (pixelBytesCall (writerOf fmt siz width depth)) ⌝ }
 {
-    let size = pixel::pixel_bytes(image_writer(fmt, siz, width, depth));
+    let size = writeback_pixel::pixel_bytes(image_writer(fmt, siz, width, depth));
     match size {
         PixelBytes::Bytes(n) => Answer {
             number: 0,
@@ -114,5 +114,5 @@ pub fn encode(
     let place = pixel as usize;
     let given = literal_word(literal, word);
     let order = byte_order(big_endian);
-    encoded(pixel::encode(writer, bytes, coverage, place, given, rgb_dither, order))
+    encoded(writeback_pixel::encode(writer, bytes, coverage, place, given, rgb_dither, order))
 }

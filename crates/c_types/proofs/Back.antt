@@ -1,12 +1,12 @@
 -- A combiner that goes out by its numbers and comes back is the same: each case has its own number. Assumes nothing.
 use mathlib.Core.Path.{_≡_, refl}
-use Rattle.selectors.specs.declared.ColorIn.{ColorIn}
-use Rattle.selectors.specs.declared.ColorIn.the-variants as cin
-use Rattle.selectors.specs.declared.AlphaIn.{AlphaIn}
-use Rattle.selectors.specs.declared.AlphaIn.the-variants as ain
-use Rattle.selectors.specs.declared.CycleSel.{CycleSel}
+use Rattle.combiner_inputs.specs.declared.ColorIn.{ColorIn}
+use Rattle.combiner_inputs.specs.declared.ColorIn.the-variants as cin
+use Rattle.combiner_inputs.specs.declared.AlphaIn.{AlphaIn}
+use Rattle.combiner_inputs.specs.declared.AlphaIn.the-variants as ain
+use Rattle.combiner_inputs.specs.declared.CycleSel.{CycleSel}
 use Rattle.combiner.specs.declared.Combiner.{Combiner}
-use Rattle.selectors.specs.Inputs.{colorNumber, alphaNumber}
+use Rattle.combiner_inputs.specs.Inputs.{colorNumber, alphaNumber}
 use Rattle.c_types.specs.Convert.{colorInOf, alphaInOf, cycleFrom, numbersOf, combinerFrom, partsOf}
 
 color-back : (x : ColorIn) → colorInOf (colorNumber x) ≡ x

@@ -4,7 +4,7 @@ use Prim.Native.Nat.{ℕ}
 use mathlib.Core.Path.{_≡_, sym, ap}
 use mathlib.Core.List.{List}
 use lib.ListN.{length, List·getD-eq-default}
-use Rattle.selectors.proofs.Tables.{Missed, missed-le}
+use Rattle.combiner_inputs.proofs.Tables.{Missed, missed-le}
 use Rattle.c_types.specs.Convert.{numbered}
 
 module _ {E : Type 0} (cases : List E) (last : E) (n : ℕ) where

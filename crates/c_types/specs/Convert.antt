@@ -4,32 +4,32 @@ use Prim.Native.Nat.{ℕ, _/_, _%_}
 use mathlib.Core.Bool.{Bool, true, false}
 use mathlib.Core.List.{List, [], _∷_}
 use lib.ListN.{getD}
-use Rattle.mode.specs.declared.AlphaCompare.{AlphaCompare}
-use Rattle.mode.specs.declared.BlendClass.{BlendClass}
-use Rattle.mode.specs.declared.ZMode.{ZMode}
-use Rattle.mode.specs.declared.RenderMode.{RenderMode}
-use Rattle.selectors.specs.declared.ColorIn.{ColorIn}
-use Rattle.selectors.specs.declared.AlphaIn.{AlphaIn}
-use Rattle.selectors.specs.declared.CycleSel.{CycleSel}
-use Rattle.selectors.specs.declared.CombinerSelectors.{CombinerSelectors}
+use Rattle.state.specs.declared.AlphaCompare.{AlphaCompare}
+use Rattle.state.specs.declared.BlendClass.{BlendClass}
+use Rattle.state.specs.declared.ZMode.{ZMode}
+use Rattle.state.specs.declared.RenderMode.{RenderMode}
+use Rattle.combiner_inputs.specs.declared.ColorIn.{ColorIn}
+use Rattle.combiner_inputs.specs.declared.AlphaIn.{AlphaIn}
+use Rattle.combiner_inputs.specs.declared.CycleSel.{CycleSel}
+use Rattle.combiner_inputs.specs.declared.CombinerSelectors.{CombinerSelectors}
 use Rattle.combiner.specs.declared.Combiner.{Combiner}
 use Rattle.blender.specs.declared.Coverage.{Coverage}
-use Rattle.pack.specs.declared.FramebufferEncoding.{FramebufferEncoding}
-use Rattle.pack.specs.declared.Literal.{Literal}
-use Rattle.pack.specs.declared.Rgba8.{Rgba8}
-use Rattle.pack.specs.declared.Writer.{Writer}
-use Rattle.selectors.specs.Inputs.{colorNumber, alphaNumber}
+use Rattle.words_pack.specs.declared.FramebufferEncoding.{FramebufferEncoding}
+use Rattle.words_pack.specs.declared.Literal.{Literal}
+use Rattle.words_pack.specs.declared.Rgba8.{Rgba8}
+use Rattle.words_pack.specs.declared.Writer.{Writer}
+use Rattle.combiner_inputs.specs.Inputs.{colorNumber, alphaNumber}
 use Rattle.c_types.specs.declared.Mode.{Mode}
 use Rattle.c_types.specs.declared.Parts.{Parts}
 use Rattle.c_types.specs.declared.Selectors.{Selectors}
-use Rattle.mode.specs.declared.AlphaCompare.the-variants as compare
-use Rattle.mode.specs.declared.BlendClass.the-variants as class
-use Rattle.mode.specs.declared.ZMode.the-variants as depth
-use Rattle.selectors.specs.declared.ColorIn.the-variants as cin
-use Rattle.selectors.specs.declared.AlphaIn.the-variants as ain
+use Rattle.state.specs.declared.AlphaCompare.the-variants as compare
+use Rattle.state.specs.declared.BlendClass.the-variants as class
+use Rattle.state.specs.declared.ZMode.the-variants as depth
+use Rattle.combiner_inputs.specs.declared.ColorIn.the-variants as cin
+use Rattle.combiner_inputs.specs.declared.AlphaIn.the-variants as ain
 use Rattle.blender.specs.declared.Coverage.the-variants as memory
-use Rattle.pack.specs.declared.FramebufferEncoding.the-variants as order
-use Rattle.pack.specs.declared.Literal.the-variants as literal
+use Rattle.words_pack.specs.declared.FramebufferEncoding.the-variants as order
+use Rattle.words_pack.specs.declared.Literal.the-variants as literal
 
 -- ---- numbers for enums
 

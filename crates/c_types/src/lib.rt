@@ -1,23 +1,23 @@
 // The C interface's structs for a mode, a combiner and selectors, and the library's types from plain values and back.
 ghost use mathlib.Core.Path.{_≡_};
-ghost use Rattle.selectors.specs.Inputs.{colorNumber, alphaNumber};
+ghost use Rattle.combiner_inputs.specs.Inputs.{colorNumber, alphaNumber};
 ghost use Rattle.c_types.specs.Convert.{blendClassOf, zModeOf, alphaCompareOf, colorInOf, alphaInOf, modeOf, cycleFrom, numbersOf, combinerFrom, partsOf, selectorsOf, coverageOf, literalOf, encodingOf, writerOf, bytesFrom};
 use blender::Coverage;
 use combiner::Combiner;
-use mode::AlphaCompare;
-use mode::BlendClass;
-use mode::RenderMode;
-use mode::Rgba;
-use mode::ZMode;
-use pack::FramebufferEncoding;
-use pack::ImageLayout;
-use pack::Literal;
-use pack::Rgba8;
-use pack::Writer;
-use selectors::AlphaIn;
-use selectors::ColorIn;
-use selectors::CombinerSelectors;
-use selectors::CycleSel;
+use combiner_inputs::AlphaIn;
+use combiner_inputs::ColorIn;
+use combiner_inputs::CombinerSelectors;
+use combiner_inputs::CycleSel;
+use state::AlphaCompare;
+use state::BlendClass;
+use state::RenderMode;
+use state::Rgba;
+use state::ZMode;
+use words_pack::FramebufferEncoding;
+use words_pack::ImageLayout;
+use words_pack::Literal;
+use words_pack::Rgba8;
+use words_pack::Writer;
 
 // RenderMode, its enums by their numbers in the order of their declarations. A number that an enum lacks stands for its last case: a class above 3 is
 // DualSrc, a z mode above 3 Decal, an alpha_compare above 2 Dither.

@@ -4,9 +4,9 @@ use Prim.Native.Nat.{ℕ}
 use mathlib.Core.Path.{_≡_, refl, ap, _∙_}
 use mathlib.Core.Bool.{Bool, true, false, cond, _&&_}
 use lib.Dec.{eqb}
-use Rattle.mode.specs.declared.CombinerUniform.{CombinerUniform}
-use Rattle.mode.specs.declared.RenderMode.{RenderMode}
-use Rattle.mode.specs.declared.Rgba.{Rgba}
+use Rattle.state.specs.declared.CombinerUniform.{CombinerUniform}
+use Rattle.state.specs.declared.RenderMode.{RenderMode}
+use Rattle.state.specs.declared.Rgba.{Rgba}
 use Rattle.combiner.specs.declared.Color.{Color}
 use Rattle.combiner.specs.declared.Color.the-variants as color
 use Rattle.combiner.specs.declared.Combiner.{Combiner}

@@ -9,12 +9,12 @@ use lib.Dec.{eqb}
 use lib.ListN.{getD}
 use types.Run.{OneOf}
 use denote.Enum.Declared.{tagOf}
-use Rattle.selectors.specs.declared.ColorIn.{ColorIn}
-use Rattle.selectors.specs.declared.ColorIn.the-variants as cin
-use Rattle.selectors.proofs.ColorIn as color-in
-use Rattle.selectors.specs.declared.AlphaIn.{AlphaIn}
-use Rattle.selectors.specs.declared.AlphaIn.the-variants as ain
-use Rattle.selectors.proofs.AlphaIn as alpha-in
+use Rattle.combiner_inputs.specs.declared.ColorIn.{ColorIn}
+use Rattle.combiner_inputs.specs.declared.ColorIn.the-variants as cin
+use Rattle.combiner_inputs.proofs.ColorIn as color-in
+use Rattle.combiner_inputs.specs.declared.AlphaIn.{AlphaIn}
+use Rattle.combiner_inputs.specs.declared.AlphaIn.the-variants as ain
+use Rattle.combiner_inputs.proofs.AlphaIn as alpha-in
 
 abbrev holds : ℕ → List ℕ → Bool
 holds n [] = false

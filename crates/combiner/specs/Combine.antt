@@ -5,12 +5,12 @@ use Prim.Native.Nat.{ℕ}
 use mathlib.Core.Bool.{cond}
 use lib.Dec.{eqb}
 use lib.Ieee.{Float}
-use Rattle.num.specs.Color.{f0, f1, channelOf}
-use Rattle.mode.specs.declared.Rgba.{Rgba}
-use Rattle.selectors.specs.declared.ColorIn.{ColorIn}
-use Rattle.selectors.specs.declared.ColorIn.the-variants as cin
-use Rattle.selectors.specs.declared.AlphaIn.{AlphaIn}
-use Rattle.selectors.specs.declared.AlphaIn.the-variants as ain
+use Rattle.num_float.specs.Color.{f0, f1, channelOf}
+use Rattle.state.specs.declared.Rgba.{Rgba}
+use Rattle.combiner_inputs.specs.declared.ColorIn.{ColorIn}
+use Rattle.combiner_inputs.specs.declared.ColorIn.the-variants as cin
+use Rattle.combiner_inputs.specs.declared.AlphaIn.{AlphaIn}
+use Rattle.combiner_inputs.specs.declared.AlphaIn.the-variants as ain
 use Rattle.combiner.specs.declared.Color.{Color}
 use Rattle.combiner.specs.declared.Color.the-variants as color
 use Rattle.combiner.specs.declared.Combiner.{Combiner}

@@ -4,13 +4,13 @@ use mathlib.Core.Bool.{Bool, true, false, cond, not, _&&_, _||_}
 use lib.Dec.{eqb}
 use lib.ListN.{getD}
 use lib.Ieee.{nan}
-use Rattle.mode.specs.declared.AlphaCompare.{AlphaCompare}
-use Rattle.mode.specs.declared.AlphaCompare.the-variants as compare
-use Rattle.mode.specs.declared.BlendClass.{BlendClass}
-use Rattle.mode.specs.declared.BlendClass.the-variants as blend
-use Rattle.mode.specs.declared.CombinerUniform.{CombinerUniform}
-use Rattle.mode.specs.declared.RenderMode.{RenderMode}
-use Rattle.selectors.specs.Combine.{cycle1}
+use Rattle.state.specs.declared.AlphaCompare.{AlphaCompare}
+use Rattle.state.specs.declared.AlphaCompare.the-variants as compare
+use Rattle.state.specs.declared.BlendClass.{BlendClass}
+use Rattle.state.specs.declared.BlendClass.the-variants as blend
+use Rattle.state.specs.declared.CombinerUniform.{CombinerUniform}
+use Rattle.state.specs.declared.RenderMode.{RenderMode}
+use Rattle.combiner_inputs.specs.Combine.{cycle1}
 use Rattle.combiner.specs.declared.Color.{Color}
 use Rattle.combiner.specs.declared.Color.the-variants as color
 use Rattle.combiner.specs.declared.Combiner.{Combiner}

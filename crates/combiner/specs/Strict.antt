@@ -6,14 +6,14 @@ use mathlib.Core.Bool.{Bool, false, cond, _&&_, _||_}
 use mathlib.Core.List.{List, [], _∷_}
 use lib.Dec.{eqb}
 use lib.Ieee.{Float, eq}
-use Rattle.num.specs.Color.{f0, f1}
-use Rattle.mode.specs.declared.Rgba.{Rgba}
-use Rattle.selectors.specs.declared.CycleSel.{CycleSel}
-use Rattle.selectors.specs.declared.ColorIn.{ColorIn}
-use Rattle.selectors.specs.declared.ColorIn.the-variants as cin
-use Rattle.selectors.specs.declared.AlphaIn.{AlphaIn}
-use Rattle.selectors.specs.declared.AlphaIn.the-variants as ain
-use Rattle.selectors.specs.Inputs.{colorNumber, alphaNumber}
+use Rattle.num_float.specs.Color.{f0, f1}
+use Rattle.state.specs.declared.Rgba.{Rgba}
+use Rattle.combiner_inputs.specs.declared.CycleSel.{CycleSel}
+use Rattle.combiner_inputs.specs.declared.ColorIn.{ColorIn}
+use Rattle.combiner_inputs.specs.declared.ColorIn.the-variants as cin
+use Rattle.combiner_inputs.specs.declared.AlphaIn.{AlphaIn}
+use Rattle.combiner_inputs.specs.declared.AlphaIn.the-variants as ain
+use Rattle.combiner_inputs.specs.Inputs.{colorNumber, alphaNumber}
 use Rattle.combiner.specs.declared.Color.{Color}
 use Rattle.combiner.specs.declared.Color.the-variants as color
 use Rattle.combiner.specs.declared.Combiner.{Combiner}

@@ -4,14 +4,14 @@ ghost use Rattle.combiner.specs.Combine.{element, colorInput, alphaInput
 ghost use Rattle.combiner.specs.Strict.{zeroColor, zeroAlpha, constantColor, constantAlpha, flat, pure, filled, wordOf, strictOf};
 ghost use Rattle.combiner.specs.New.{compares, blendsColor, plain, combinerOf, newOf};
 ghost use Rattle.combiner.specs.Means.{madeMeans, newCall, colorMeans, colorCall, strictMeans, strictCall};
-use mode::AlphaCompare;
-use mode::BlendClass;
-use mode::CombinerUniform;
-use mode::RenderMode;
-use mode::Rgba;
-use selectors::AlphaIn;
-use selectors::ColorIn;
-use selectors::CycleSel;
+use combiner_inputs::AlphaIn;
+use combiner_inputs::ColorIn;
+use combiner_inputs::CycleSel;
+use state::AlphaCompare;
+use state::BlendClass;
+use state::CombinerUniform;
+use state::RenderMode;
+use state::Rgba;
 
 pub struct Combiner {
     pub selectors: CycleSel,
@@ -78,7 +78,7 @@ pub fn mix(a: Input, b: Input, c: Input, d: Input) -> Input
     let Input::Value(w) = d else {
         return Input::Refused;
     };
-    Input::Value(num::channel(x, y, z, w))
+    Input::Value(num_float::channel(x, y, z, w))
 }
 
 // The shade of a rectangle, with which a combiner is also tried.
@@ -218,7 +218,7 @@ fn is_plain(mode: RenderMode) -> bool
 fn read_uniform(u: CombinerUniform) -> Combiner
     ensures { λ r. ⌜ r ≡ combinerOf u ⌝ }
 {
-    let decoded = selectors::decode_combine(u.combine_l, u.combine_h);
+    let decoded = combiner_inputs::decode_combine(u.combine_l, u.combine_h);
     let selectors = decoded.cyc1;
     let prim = u.prim;
     let env = u.env;

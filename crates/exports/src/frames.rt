@@ -1,17 +1,17 @@
 // The C interface of the frame: a draw, a word read and a run of words over three lent slices of colour bytes, coverages and marks.
 ghost use mathlib.Core.Path.{_≡_};
 ghost use Rattle.frame.specs.Lent.{old, new, before, after};
-ghost use Rattle.draw.specs.Draw.{drawAnswer, drawFrame};
-ghost use Rattle.words.specs.Read.{readAnswer};
-ghost use Rattle.runs.specs.Run.{runAnswer};
+ghost use Rattle.frame_draw.specs.Draw.{drawAnswer, drawFrame};
+ghost use Rattle.words_read.specs.Read.{readAnswer};
+ghost use Rattle.words_run.specs.Run.{runAnswer};
 ghost use Rattle.c_frame.specs.Frames.{drawFrom, readFrom, drawnAnswer, wordAnswer, ranAnswer};
 use c_answers::Answer;
 use c_draw::GeometryParts;
 use c_frame::DrawnAnswer;
 use c_frame::RanAnswer;
 use c_types::Mode;
-use mode::CombinerUniform;
-use raster::Scissor;
+use raster_pixel::Scissor;
+use state::CombinerUniform;
 
 #[no_mangle]
 pub extern "C" fn wb_draw(

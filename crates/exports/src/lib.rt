@@ -1,16 +1,16 @@
 // The C interface: every function that the static library has, by its C name. Each takes plain values, is total, and is one call of a function below that has the same
 // contract; a static library has only the exported functions of the crate that it is built from. include/writeback.h declares the same for C.
 ghost use mathlib.Core.Path.{_≡_};
-ghost use Rattle.num.specs.Color.{clamped, isFinite, totalLe};
-ghost use Rattle.num.specs.Whole.{whole, floor, ceil, indexCap, byteOf, quarterOf};
-ghost use Rattle.selectors.specs.Combine.{select, colorA, colorB, colorC, colorD, alphaABD, alphaC, combineOf};
+ghost use Rattle.num_float.specs.Color.{clamped, isFinite, totalLe};
+ghost use Rattle.num_float.specs.Whole.{whole, floor, ceil, indexCap, byteOf, quarterOf};
+ghost use Rattle.combiner_inputs.specs.Combine.{select, colorA, colorB, colorC, colorD, alphaABD, alphaC, combineOf};
 ghost use Rattle.combiner.specs.Means.{newCall, colorCall, strictCall};
-ghost use Rattle.selectors.specs.Inputs.{colorNumber, alphaNumber};
-ghost use Rattle.pack.specs.Depth.{packDepthOf};
-ghost use Rattle.pixel.specs.Calls.{destinationCall, colorKnownCall, blendCall, packColorCall, supportedCall, pixelBytesCall, encodeCall};
+ghost use Rattle.combiner_inputs.specs.Inputs.{colorNumber, alphaNumber};
+ghost use Rattle.words_pack.specs.Depth.{packDepthOf};
+ghost use Rattle.writeback_pixel.specs.Calls.{destinationCall, colorKnownCall, blendCall, packColorCall, supportedCall, pixelBytesCall, encodeCall};
 ghost use mathlib.Core.Bool.{_&&_};
-ghost use Rattle.vertex.specs.Range.{inRangeX, inRangeY};
-ghost use Rattle.raster.specs.Admitted.{admittedOf};
+ghost use Rattle.raster_vertex.specs.Range.{inRangeX, inRangeY};
+ghost use Rattle.raster_pixel.specs.Admitted.{admittedOf};
 ghost use Rattle.c_types.specs.Convert.{modeOf, combinerFrom, selectorsOf, coverageOf, literalOf, encodingOf, writerOf, bytesFrom};
 ghost use Rattle.c_answers.specs.Answers.{same, bit, fourBytes, twoBytes, answerOf, strictAnswer, colorAnswer, combinerAnswer};
 ghost use Rattle.c_draw.specs.Draws.{geometryFrom, probeFrom, fragmentAnswer};
@@ -23,10 +23,10 @@ use c_draw::GeometryParts;
 use c_types::Mode;
 use c_types::Parts;
 use c_types::Selectors;
-use mode::CombinerUniform;
-use mode::Rgba;
-use selectors::AlphaIn;
-use selectors::ColorIn;
+use combiner_inputs::AlphaIn;
+use combiner_inputs::ColorIn;
+use state::CombinerUniform;
+use state::Rgba;
 
 mod frames; // a draw, a word read and a run of words
 
@@ -87,21 +87,21 @@ pub extern "C" fn wb_decode_combine(w0: u32, w1: u32) -> Selectors
 pub extern "C" fn wb_clamp(x: f32) -> f32
     ensures { λ r. ⌜ r ≡ clamped x ⌝ }
 {
-    num::clamp01(x)
+    num_float::clamp01(x)
 }
 
 #[no_mangle]
 pub extern "C" fn wb_byte_of(x: f32) -> u8
     ensures { λ r. ⌜ r ≡ byteOf x ⌝ }
 {
-    num::byte_of(x)
+    num_float::byte_of(x)
 }
 
 #[no_mangle]
 pub extern "C" fn wb_quarter(x: f32) -> i64
     ensures { λ r. ⌜ r ≡ quarterOf x ⌝ }
 {
-    num::quarter(x)
+    num_float::quarter(x)
 }
 
 #[no_mangle]
@@ -122,14 +122,14 @@ pub extern "C" fn wb_ceil_index(x: f32) -> u32
 pub extern "C" fn wb_is_finite(x: f32) -> bool
     ensures { λ r. ⌜ r ≡ isFinite x ⌝ }
 {
-    num::is_finite(x)
+    num_float::is_finite(x)
 }
 
 #[no_mangle]
 pub extern "C" fn wb_le_total(a: f32, b: f32) -> bool
     ensures { λ r. ⌜ r ≡ totalLe a b ⌝ }
 {
-    num::le_total(a, b)
+    num_float::le_total(a, b)
 }
 
 // ---- the combiner: writeback.rs

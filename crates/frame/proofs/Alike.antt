@@ -10,11 +10,11 @@ use native.Mathlib.Omega.{arith}
 use lib.Dec.{leb}
 use lib.ListN.{length, getD, set, length-set}
 use lib.Seq.{getD-set-other}
-use Rattle.cell.specs.declared.Cell.{Cell}
-use Rattle.cell.specs.Marks.{highestMark, colorMarked, coverageMarked}
-use Rattle.cell.specs.Alike.{AlikeCell}
-use Rattle.cell.proofs.Alike.{never}
-use Rattle.frame.specs.Frame.{Frame, cellAt, putCell}
+use Rattle.frame_pixel.specs.declared.Pixel.{Pixel}
+use Rattle.frame_pixel.specs.Marks.{highestMark, colorMarked, coverageMarked}
+use Rattle.frame_pixel.specs.Alike.{AlikePixel}
+use Rattle.frame_pixel.proofs.Alike.{never}
+use Rattle.frame.specs.Frame.{Frame, pixelAt, putPixel}
 use Rattle.frame.specs.Checks.{lengthsOk, markOk, marksOk, frameRefusal}
 use Rattle.frame.specs.Alike.{Alike}
 
@@ -36,7 +36,7 @@ skip : (l : List ℕ) (i j a : ℕ) → j ≢ i → getD (set l i a) j 0 ≡ get
 skip l i j a n = getD-set-other l i j a 0 n
 
 -- ---- a frame with one pixel stored: the bytes of another pixel
-pub other : (f : Frame) (p q : ℕ) (x : Cell) → q ≢ p → cellAt (putCell f p x) q ≡ cellAt f q
+pub other : (f : Frame) (p q : ℕ) (x : Pixel) → q ≢ p → pixelAt (putPixel f p x) q ≡ pixelAt f q
 other f p q x n = λ i. record {
   red = color (3 * q) (omega arith) (omega arith) (omega arith) i;
   green = color (3 * q + 1) (omega arith) (omega arith) (omega arith) i;
@@ -45,7 +45,7 @@ other f p q x n = λ i. record {
   mark = skip (f .marks) p q (x .mark) n i;
 }
   where
-    color : (j : ℕ) → j ≢ 3 * p → j ≢ 3 * p + 1 → j ≢ 3 * p + 2 → getD (putCell f p x .colors) j 0 ≡ getD (f .colors) j 0
+    color : (j : ℕ) → j ≢ 3 * p → j ≢ 3 * p + 1 → j ≢ 3 * p + 2 → getD (putPixel f p x .colors) j 0 ≡ getD (f .colors) j 0
     color j a b c = rw (skip, skip, skip)
 
 -- the colour bytes of the pixel itself: stores at other places do not show
@@ -61,14 +61,14 @@ first l p r g b =
 second : (l : List ℕ) (p r g b : ℕ) → getD (put3 l p r g b) (3 * p + 1) 0 ≡ getD (set (set l (3 * p) r) (3 * p + 1) g) (3 * p + 1) 0
 second l p r g b = let h : 3 * p + 1 ≢ 3 * p + 2 = omega arith in rw skip
 
-module _ (f g : Frame) (p : ℕ) (x y : Cell) (h : Alike f g) (c : AlikeCell x y) where
+module _ (f g : Frame) (p : ℕ) (x y : Pixel) (h : Alike f g) (c : AlikePixel x y) where
   marks-put : set (f .marks) p (x .mark) ≡ set (g .marks) p (y .mark)
   marks-put = ap₂ (λ (l : List ℕ) (a : ℕ). set l p a) (h .marks) (c .mark)
 
   was-marked : colorMarked (getD (set (f .marks) p (x .mark)) p 0) ≡ true → colorMarked (x .mark) ≡ true
   was-marked t = read-back colorMarked refl (f .marks) p (x .mark) t
 
-  abbrev colors-after : Frame → Cell → List ℕ
+  abbrev colors-after : Frame → Pixel → List ℕ
   colors-after k z = put3 (k .colors) p (z .red) (z .green) (z .blue)
 
   red-back : x .red ≡ y .red → getD (colors-after f x) (3 * p) 0 ≡ getD (colors-after g y) (3 * p) 0
@@ -91,7 +91,7 @@ module _ (f g : Frame) (p : ℕ) (x y : Cell) (h : Alike f g) (c : AlikeCell x y
       (y .blue)
       (simp length-set (h .colors)))
 
-  here : AlikeCell (cellAt (putCell f p x) p) (cellAt (putCell g p y) p)
+  here : AlikePixel (pixelAt (putPixel f p x) p) (pixelAt (putPixel g p y) p)
   here =
       record {
         mark = ap (λ (l : List ℕ). getD l p 0) marks-put;
@@ -103,7 +103,7 @@ module _ (f g : Frame) (p : ℕ) (x y : Cell) (h : Alike f g) (c : AlikeCell x y
             (same-back (f .coverages) (g .coverages) p (y .coverage) (h .coverages));
       }
 
-  pub put-alike : Alike (putCell f p x) (putCell g p y)
+  pub put-alike : Alike (putPixel f p x) (putPixel g p y)
   put-alike =
       record {
         colors = simp length-set (h .colors);
@@ -112,8 +112,8 @@ module _ (f g : Frame) (p : ℕ) (x y : Cell) (h : Alike f g) (c : AlikeCell x y
         cells = λ (q : ℕ). at q (ℕ-discrete q p);
       }
     where
-      at : (q : ℕ) → Dec (q ≡ p) → AlikeCell (cellAt (putCell f p x) q) (cellAt (putCell g p y) q)
-      at q (yes e) = subst (λ (j : ℕ). AlikeCell (cellAt (putCell f p x) j) (cellAt (putCell g p y) j)) (sym e) here
+      at : (q : ℕ) → Dec (q ≡ p) → AlikePixel (pixelAt (putPixel f p x) q) (pixelAt (putPixel g p y) q)
+      at q (yes e) = subst (λ (j : ℕ). AlikePixel (pixelAt (putPixel f p x) j) (pixelAt (putPixel g p y) j)) (sym e) here
       at q (no n) = rw (other f p q x n, other g p q y n) (h .cells q)
 
 -- ---- numbers 1 to 3 look at lengths, at marks and at known coverages

@@ -9,12 +9,12 @@ use native.Mathlib.Omega.{arith}
 use borrow.Author.Tests.{leb-true, eqb-true, le-leb, eq-eqb}
 use lib.Dec.{leb, eqb}
 use lib.ListN.{length, getD, set, length-set}
-use Rattle.cell.specs.declared.Cell.{Cell}
-use Rattle.cell.specs.Marks.{highestMark, coverageMarked, coverageOf}
+use Rattle.frame_pixel.specs.declared.Pixel.{Pixel}
+use Rattle.frame_pixel.specs.Marks.{highestMark, coverageMarked, coverageOf}
 use Rattle.blender.specs.Blend.{orZero}
-use Rattle.cell.proofs.Alike.{never}
+use Rattle.frame_pixel.proofs.Alike.{never}
 use Rattle.blender.specs.declared.Coverage.the-variants.{Unknown, Known}
-use Rattle.frame.specs.Frame.{Frame, putCell}
+use Rattle.frame.specs.Frame.{Frame, putPixel}
 use Rattle.frame.specs.Fits.{Fit}
 use Rattle.frame.specs.Checks.{sizeOk, sizesOk, lengthsOk, markOk, marksOk, frameRefusal}
 
@@ -115,9 +115,9 @@ module _ {f : Frame} {n : ℕ} (h : Fit n f) where
   fit-marks = marks-all (f .coverages) (f .marks) (λ p. mark-good (getD (f .marks) p 0) (getD (f .coverages) p 0) (h .low p) (h .sound p))
 
   -- a pixel stored whose mark and coverage number 3 lets through keeps a frame that fits
-  pub put-fit : (p : ℕ) (x : Cell) → markOk (x .mark) (x .coverage) ≡ true → Fit n (putCell f p x)
+  pub put-fit : (p : ℕ) (x : Pixel) → markOk (x .mark) (x .coverage) ≡ true → Fit n (putPixel f p x)
   put-fit p x t =
-      lengths-fit (putCell f p x) n (simp length-set fit-lengths) (marks-put (f .coverages) (f .marks) p (x .coverage) (x .mark) t fit-marks)
+      lengths-fit (putPixel f p x) n (simp length-set fit-lengths) (marks-put (f .coverages) (f .marks) p (x .coverage) (x .mark) t fit-marks)
 
 -- a frame that numbers 1 to 3 do not refuse is one of w by h pixels that fits
 pub accepted : (f : Frame) (w h : ℕ) → frameRefusal f w h ≡ 0 → Accepted f w h
@@ -148,7 +148,7 @@ not-refused f w h a = rw (sizes, fit-lengths (a .fit), fit-marks (a .fit))
     sizes = λ i. size w (a .width) i && size h (a .height) i
 
 -- A frame that numbers 1 to 3 accept is accepted with a pixel stored whose mark is at most the highest and whose coverage, if it is known, at most 7.
-pub put-accepted : (f : Frame) (w h p : ℕ) (x : Cell) → markOk (x .mark) (x .coverage) ≡ true → frameRefusal f w h ≡ 0 → frameRefusal (putCell f p x) w h ≡ 0
+pub put-accepted : (f : Frame) (w h p : ℕ) (x : Pixel) → markOk (x .mark) (x .coverage) ≡ true → frameRefusal f w h ≡ 0 → frameRefusal (putPixel f p x) w h ≡ 0
 put-accepted f w h p x t e =
     let a = accepted f w h e in
-    not-refused (putCell f p x) w h (record { width = a .width; height = a .height; few = a .few; fit = put-fit (a .fit) p x t })
+    not-refused (putPixel f p x) w h (record { width = a .width; height = a .height; few = a .few; fit = put-fit (a .fit) p x t })

@@ -8,15 +8,15 @@ use borrow.Author.Tests.{le-leb}
 use lib.Dec.{leb}
 use lib.ListN.{getD}
 use Rattle.blender.specs.declared.Coverage.the-variants.{Unknown, Known}
-use Rattle.cell.specs.declared.Cell.{Cell}
-use Rattle.cell.specs.declared.Colors.{Colors}
-use Rattle.cell.specs.Marks.{highestMark, colorMarked, coverageMarked, coverageOf}
+use Rattle.frame_pixel.specs.declared.Pixel.{Pixel}
+use Rattle.frame_pixel.specs.declared.Colors.{Colors}
+use Rattle.frame_pixel.specs.Marks.{highestMark, colorMarked, coverageMarked, coverageOf}
 use Rattle.blender.specs.Blend.{orZero}
-use Rattle.frame.specs.Frame.{Frame, cellAt}
-use Rattle.frame.specs.Fits.{Fit, knownCell, colorsAt, colorsIf}
+use Rattle.frame.specs.Frame.{Frame, pixelAt}
+use Rattle.frame.specs.Fits.{Fit, knownPixel, colorsAt, colorsIf}
 use Rattle.frame.specs.Loads.{CoverageKnown, Loadable}
 use Rattle.frame.specs.Checks.{markOk}
-use Rattle.frame.specs.Told.{atMost}
+use Rattle.frame.specs.Finding.{atMost}
 use Rattle.frame.proofs.Tests.{goes-on}
 
 -- ---- by what the mark says
@@ -36,9 +36,9 @@ module _ {b : Bool} where
 -- what is known of a pixel
 module _ (f : Frame) (p : ℕ) {r : Colors} {n : ℕ} where
   pub known-pixel :
-      r ≡ colorsIf (colorMarked (cellAt f p .mark)) (colorsAt (f .colors) p) → n ≡ cond (coverageMarked (cellAt f p .mark)) (cellAt f p .coverage) 0
-      → _≡_ {A = Cell} (record { red = r .red; green = r .green; blue = r .blue; coverage = n; mark = cellAt f p .mark }) (knownCell (cellAt f p))
-  known-pixel e g = λ i. record { red = e i .red; green = e i .green; blue = e i .blue; coverage = g i; mark = cellAt f p .mark }
+      r ≡ colorsIf (colorMarked (pixelAt f p .mark)) (colorsAt (f .colors) p) → n ≡ cond (coverageMarked (pixelAt f p .mark)) (pixelAt f p .coverage) 0
+      → _≡_ {A = Pixel} (record { red = r .red; green = r .green; blue = r .blue; coverage = n; mark = pixelAt f p .mark }) (knownPixel (pixelAt f p))
+  known-pixel e g = λ i. record { red = e i .red; green = e i .green; blue = e i .blue; coverage = g i; mark = pixelAt f p .mark }
 
 -- a coverage that is not known stands as 0: it is not too high for number 3, and it is what an unknown one is passed as
 pub mark-low : (m c : ℕ) {r : ℕ} → m ≤ highestMark → r ≡ cond (coverageMarked m) c 0 → leb r 7 ≡ markOk m c

@@ -12,10 +12,10 @@ use lib.Dec.{leb, eqb}
 use lib.Pow.{pow-pos}
 use lib.ListN.{length, getD, take, drop, drop-of-length-le}
 use lib.Seq.{drop-cons, drop-drop}
-use Rattle.cell.specs.Marks.{highestMark, coverageMarked}
+use Rattle.frame_pixel.specs.Marks.{highestMark, coverageMarked}
 use Rattle.frame.specs.Frame.{Frame}
 use Rattle.frame.specs.Checks.{sizeOk, sizesOk, lengthsOk, markOk, marksOk, frameRefusal}
-use Rattle.frame.specs.Told.{every, atMost, coverageUnmarked}
+use Rattle.frame.specs.Finding.{every, atMost, coverageUnmarked}
 use Rattle.frame.proofs.Fits.{both-left, both-right, pixels-le}
 
 together : (a b c : Bool) → ((a && b) && c) ≡ (a && (b && c))

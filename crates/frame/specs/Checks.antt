@@ -4,7 +4,7 @@ use mathlib.Core.Bool.{Bool, true, cond, not, _&&_, _||_}
 use mathlib.Core.List.{List, [], _∷_}
 use lib.Dec.{leb, eqb}
 use lib.ListN.{length}
-use Rattle.cell.specs.Marks.{highestMark, coverageMarked}
+use Rattle.frame_pixel.specs.Marks.{highestMark, coverageMarked}
 use Rattle.frame.specs.Frame.{Frame}
 
 -- 1: width and height are 1 to 1,024

@@ -4,12 +4,12 @@ use mathlib.Core.Path.{_≡_}
 use mathlib.Core.Bool.{Bool, cond}
 use mathlib.Core.List.{List}
 use lib.ListN.{length, getD, set}
-use Rattle.cell.specs.declared.Cell.{Cell}
-use Rattle.cell.specs.Marks.{highestMark, colorMarked, coverageMarked, coverageOf}
+use Rattle.frame_pixel.specs.declared.Pixel.{Pixel}
+use Rattle.frame_pixel.specs.Marks.{highestMark, colorMarked, coverageMarked, coverageOf}
 use Rattle.blender.specs.Blend.{orZero}
-use Rattle.cell.specs.Rules.{ruleF4}
+use Rattle.frame_pixel.specs.Rules.{ruleF4}
 use Rattle.frame.specs.Frame.{Frame}
-use Rattle.cell.specs.declared.Colors.{Colors}
+use Rattle.frame_pixel.specs.declared.Colors.{Colors}
 
 -- three colour bytes and one coverage for each mark
 pub record Long (f : Frame) : Type 0 where
@@ -33,8 +33,8 @@ pub record Fit (n : ℕ) (f : Frame) : Type 0 where
   pub sound : (p : ℕ) → orZero (coverageOf (getD (f .marks) p 0) (getD (f .coverages) p 0)) ≤ 7
 
 -- an unmarked byte stands as 0
-abbrev pub knownCell : Cell → Cell
-knownCell x =
+abbrev pub knownPixel : Pixel → Pixel
+knownPixel x =
     record {
       red = cond (colorMarked (x .mark)) (x .red) 0;
       green = cond (colorMarked (x .mark)) (x .green) 0;
@@ -57,5 +57,5 @@ storedAt f p known new covers coverage mark =
     }
 
 -- and as far as its mark says that it is known
-abbrev pub putKnown : Frame → ℕ → Cell → Frame
+abbrev pub putKnown : Frame → ℕ → Pixel → Frame
 putKnown f p x = storedAt f p (colorMarked (x .mark)) (ruleF4 x) (coverageMarked (x .mark)) (x .coverage) (x .mark)

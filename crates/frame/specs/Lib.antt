@@ -4,5 +4,5 @@ pub mod Lent
 pub mod Fits
 pub mod Loads
 pub mod Checks
-pub mod Told
+pub mod Finding
 pub mod Alike

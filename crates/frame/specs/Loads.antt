@@ -4,7 +4,7 @@ use mathlib.Core.Path.{_≡_}
 use mathlib.Core.Bool.{true}
 use mathlib.Core.List.{List}
 use lib.ListN.{length, getD}
-use Rattle.cell.specs.Marks.{colorMarked, coverageMarked, coverageOf}
+use Rattle.frame_pixel.specs.Marks.{colorMarked, coverageMarked, coverageOf}
 use Rattle.blender.specs.Blend.{orZero}
 use Rattle.frame.specs.Frame.{Frame}
 

@@ -3,25 +3,25 @@
 ghost use mathlib.Core.Path.{_≡_};
 ghost use Prim.Native.Nat.{_<_};
 ghost use lib.ListN.{length};
-ghost use Rattle.frame.specs.Frame.{cellAt};
+ghost use Rattle.frame.specs.Frame.{pixelAt};
 ghost use Rattle.frame.specs.Lent.{old, new, lent, before, after};
-ghost use Rattle.frame.specs.Fits.{Long, knownCell, putIf, storedAt, putKnown};
+ghost use Rattle.frame.specs.Fits.{Long, knownPixel, putIf, storedAt, putKnown};
 ghost use Rattle.frame.specs.Loads.{Loadable};
-use cell::Cell;
-use cell::Colors;
+use frame_pixel::Colors;
+use frame_pixel::Pixel;
 
 pub mod load; // the loads of colour and coverage bytes
-pub mod checks; // numbers 1 to 3
+pub mod refusal; // numbers 1 to 3
 
 // The bytes of a pixel as far as they are known.
-pub fn known_cell(colors: &[u8], coverages: &[u8], marks: &[u8], pixel: usize) -> Cell
+pub fn known_pixel(colors: &[u8], coverages: &[u8], marks: &[u8], pixel: usize) -> Pixel
     requires { ⌜ Loadable (lent colors coverages marks) pixel ⌝ }
-    ensures { λ r. ⌜ r ≡ knownCell (cellAt (before colors coverages marks) pixel) ⌝ }
+    ensures { λ r. ⌜ r ≡ knownPixel (pixelAt (before colors coverages marks) pixel) ⌝ }
 {
     let mark = marks[pixel];
     let color = load::known_color(colors, marks, pixel);
     let coverage = load::known_coverage(coverages, marks, pixel);
-    Cell {
+    Pixel {
         red: color.red,
         green: color.green,
         blue: color.blue,
@@ -67,18 +67,24 @@ pub fn store(
 }
 
 // Stores a pixel's mark, and its bytes where the mark says that they are known.
-pub fn put_cell(colors: &mut [u8], coverages: &mut [u8], marks: &mut [u8], pixel: usize, cell: Cell)
+pub fn put_pixel(
+    colors: &mut [u8],
+    coverages: &mut [u8],
+    marks: &mut [u8],
+    pixel: usize,
+    bytes: Pixel,
+)
     requires { ⌜ pixel < length (now marks) ⌝ }
     requires { ⌜ Long (lent colors coverages marks) ⌝ }
-    ensures { λ r. ⌜ after colors coverages marks ≡ putKnown (before colors coverages marks) pixel cell ⌝ }
+    ensures { λ r. ⌜ after colors coverages marks ≡ putKnown (before colors coverages marks) pixel bytes ⌝ }
 {
-    let mark = cell.mark;
-    let known = cell::color_marked(mark);
-    let covered = cell::coverage_marked(mark);
+    let mark = bytes.mark;
+    let known = frame_pixel::color_marked(mark);
+    let covered = frame_pixel::coverage_marked(mark);
     let new = Colors {
-        red: cell.red,
-        green: cell.green,
-        blue: cell.blue,
+        red: bytes.red,
+        green: bytes.green,
+        blue: bytes.blue,
     };
     store(
         colors,
@@ -88,7 +94,7 @@ pub fn put_cell(colors: &mut [u8], coverages: &mut [u8], marks: &mut [u8], pixel
         known,
         new,
         covered,
-        cell.coverage,
+        bytes.coverage,
         mark,
     );
 }

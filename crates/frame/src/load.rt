@@ -5,10 +5,10 @@ ghost use mathlib.Core.Bool.{cond};
 ghost use Prim.Native.Nat.{_<_};
 ghost use lib.ListN.{length, getD};
 ghost use Rattle.frame.specs.Lent.{old};
-ghost use Rattle.cell.specs.Marks.{colorMarked, coverageMarked};
+ghost use Rattle.frame_pixel.specs.Marks.{colorMarked, coverageMarked};
 ghost use Rattle.frame.specs.Loads.{ColorKnown, CoverageKnown, ColorThere, CoverageThere};
 ghost use Rattle.frame.specs.Fits.{colorsAt, colorsIf};
-use cell::Colors;
+use frame_pixel::Colors;
 
 // The colour bytes of a pixel whose colour is known.
 pub fn color(colors: &[u8], marks: &[u8], pixel: usize) -> Colors
@@ -41,7 +41,7 @@ pub fn known_color(colors: &[u8], marks: &[u8], pixel: usize) -> Colors
     ensures { λ r. ⌜ r ≡ colorsIf (colorMarked (getD (old marks) pixel 0)) (colorsAt (old colors) pixel) ⌝ }
 {
     let mark = marks[pixel];
-    let known = cell::color_marked(mark);
+    let known = frame_pixel::color_marked(mark);
     if known {
         return color(colors, marks, pixel);
     }
@@ -59,7 +59,7 @@ pub fn known_coverage(coverages: &[u8], marks: &[u8], pixel: usize) -> u8
     ensures { λ r. ⌜ r ≡ cond (coverageMarked (getD (old marks) pixel 0)) (getD (old coverages) pixel 0) 0 ⌝ }
 {
     let mark = marks[pixel];
-    let known = cell::coverage_marked(mark);
+    let known = frame_pixel::coverage_marked(mark);
     if known {
         return coverage(coverages, marks, pixel);
     }

@@ -9,36 +9,36 @@ use lib.Dec.{eqb}
 use lib.IntN.{ℤ, pos, negsuc, natAbs}
 use lib.Ieee.{Float}
 use lib.ListN.{length}
-use Rattle.mode.specs.declared.RenderMode.{RenderMode}
+use Rattle.state.specs.declared.RenderMode.{RenderMode}
 use Rattle.combiner.specs.declared.Combiner.{Combiner}
-use Rattle.range.specs.declared.Range.{Range}
-use Rattle.range.specs.Kept.{Kept}
-use Rattle.vertex.specs.declared.Vertex.{Vertex}
-use Rattle.vertex.specs.Sorted.{sorted}
-use Rattle.vertex.specs.Shade.{culledOf}
-use Rattle.edges.specs.declared.Corner.{Corner}
-use Rattle.edges.specs.declared.Tri.{Tri}
-use Rattle.edges.specs.Bound.{noRow}
-use Rattle.edges.specs.Edge.{areaOf}
-use Rattle.edges.specs.Limits.{AllNear, TameTri}
-use Rattle.edges.specs.Span.{triOf, edgesOf}
-use Rattle.edges.proofs.Tame.{tame}
-use Rattle.raster.specs.declared.Area.{Area}
-use Rattle.raster.specs.declared.Geometry.the-variants.{Triangles}
-use Rattle.raster.specs.declared.Scissor.{Scissor}
-use Rattle.raster.specs.declared.Three.{Three}
-use Rattle.raster.specs.declared.Three.the-variants.{Vertices, Absent}
-use Rattle.raster.specs.Admitted.{triangleAt, admittedOf}
-use Rattle.raster.specs.Area as area
-use Rattle.raster.specs.Emitted.{Emit, emits, inside, cornerOf, triangleFragment, triangleEmits, threeEmits}
-use Rattle.raster.specs.Parts.{from}
-use Rattle.raster.proofs.Checked.{AllIn, admitted-in, sorted-near}
+use Rattle.raster_range.specs.declared.Range.{Range}
+use Rattle.raster_range.specs.Kept.{Kept}
+use Rattle.raster_vertex.specs.declared.Vertex.{Vertex}
+use Rattle.raster_vertex.specs.Sorted.{sorted}
+use Rattle.raster_vertex.specs.Shade.{culledOf}
+use Rattle.raster_edges.specs.declared.Corner.{Corner}
+use Rattle.raster_edges.specs.declared.Tri.{Tri}
+use Rattle.raster_edges.specs.Bound.{noRow}
+use Rattle.raster_edges.specs.Edge.{areaOf}
+use Rattle.raster_edges.specs.Limits.{AllNear, TameTri}
+use Rattle.raster_edges.specs.Span.{triOf, edgesOf}
+use Rattle.raster_edges.proofs.Tame.{tame}
+use Rattle.raster_pixel.specs.declared.Area.{Area}
+use Rattle.raster_pixel.specs.declared.Geometry.the-variants.{Triangles}
+use Rattle.raster_pixel.specs.declared.Scissor.{Scissor}
+use Rattle.raster_pixel.specs.declared.Three.{Three}
+use Rattle.raster_pixel.specs.declared.Three.the-variants.{Vertices, Absent}
+use Rattle.raster_pixel.specs.Admitted.{triangleAt, admittedOf}
+use Rattle.raster_pixel.specs.Area as area
+use Rattle.raster_pixel.specs.Emitted.{Emit, emits, inside, cornerOf, triangleFragment, triangleEmits, threeEmits}
+use Rattle.raster_pixel.specs.Parts.{from}
+use Rattle.raster_pixel.proofs.Checked.{AllIn, admitted-in, sorted-near}
 use Rattle.frame.specs.Frame.{Frame}
 use Rattle.frame.specs.Fits.{Fit}
-use Rattle.paint.specs.declared.prepare.Paint.{Paint}
-use Rattle.paint.specs.Pixel.{Drew}
-use Rattle.paint.specs.Paint.{Ready}
-use Rattle.paint.proofs.Drawing.{drew-as}
+use Rattle.frame_paint.specs.declared.prepare.Paint.{Paint}
+use Rattle.frame_paint.specs.Pixel.{Drew}
+use Rattle.frame_paint.specs.Paint.{Ready}
+use Rattle.frame_paint.proofs.Drawing.{drew-as}
 use Rattle.rasterize.specs.declared.rows.Shading.{Shading}
 use Rattle.rasterize.specs.Shape.{shadingOf, shapePixel, shapeRow}
 use Rattle.rasterize.specs.Triangles.{Placed}

@@ -7,27 +7,27 @@ use Prim.Native.Nat.{ℕ, _+_, _-_, _*_, _≤_, _<_}
 use native.Mathlib.Nat.{add-zero}
 use native.Mathlib.Omega.{arith}
 use lib.ListN.{length}
-use Rattle.mode.specs.declared.RenderMode.{RenderMode}
+use Rattle.state.specs.declared.RenderMode.{RenderMode}
 use Rattle.combiner.specs.declared.Combiner.{Combiner}
-use Rattle.range.specs.declared.Range.{Range}
-use Rattle.range.specs.Kept.{Kept}
-use Rattle.edges.specs.declared.Edges.{Edges}
-use Rattle.edges.specs.declared.Tri.{Tri}
-use Rattle.edges.specs.Bound.{noSample, noRow}
-use Rattle.edges.specs.Span.{edgesOf}
-use Rattle.vertex.specs.declared.row.ShadeRow.{ShadeRow}
-use Rattle.raster.specs.Parts.{from}
-use Rattle.raster.specs.Emitted.{Emit}
-use Rattle.raster.proofs.Kept.{kept-all}
-use Rattle.raster.proofs.Parts.{from-none, from-empty, parts-bound}
+use Rattle.raster_range.specs.declared.Range.{Range}
+use Rattle.raster_range.specs.Kept.{Kept}
+use Rattle.raster_edges.specs.declared.Edges.{Edges}
+use Rattle.raster_edges.specs.declared.Tri.{Tri}
+use Rattle.raster_edges.specs.Bound.{noSample, noRow}
+use Rattle.raster_edges.specs.Span.{edgesOf}
+use Rattle.raster_vertex.specs.declared.row.ShadeRow.{ShadeRow}
+use Rattle.raster_pixel.specs.Parts.{from}
+use Rattle.raster_pixel.specs.Emitted.{Emit}
+use Rattle.raster_pixel.proofs.Kept.{kept-all}
+use Rattle.raster_pixel.proofs.Parts.{from-none, from-empty, parts-bound}
 use Rattle.frame.specs.Frame.{Frame}
 use Rattle.frame.specs.Fits.{Fit}
-use Rattle.paint.specs.declared.prepare.Paint.{Paint}
-use Rattle.paint.specs.declared.rows.Hue.{Hue}
-use Rattle.paint.specs.Pixel.{Drew}
-use Rattle.paint.specs.Row.{pixelOf, rowAt}
-use Rattle.paint.proofs.Drawing.{Drawing, drawing-more, drawing-count, drew-as}
-use Rattle.paint.proofs.Joins.{row-most}
+use Rattle.frame_paint.specs.declared.prepare.Paint.{Paint}
+use Rattle.frame_paint.specs.declared.rows.Hue.{Hue}
+use Rattle.frame_paint.specs.Pixel.{Drew}
+use Rattle.frame_paint.specs.Row.{pixelOf, rowAt}
+use Rattle.frame_paint.proofs.Drawing.{Drawing, drawing-more, drawing-count, drew-as}
+use Rattle.frame_paint.proofs.Joins.{row-most}
 use Rattle.rasterize.specs.declared.rows.Shading.{Shading}
 use Rattle.rasterize.specs.Shape.{isFlat, shadesOn, shapePixel, shapeRow}
 

@@ -5,13 +5,13 @@ use mathlib.Core.List.{List, _++_, foldl, foldl-append}
 use Prim.Native.Nat.{ℕ, zero, suc, _+_, _-_, _≤_, _<_}
 use native.Mathlib.Omega.{arith}
 use lib.ListN.{length, length-append}
-use Rattle.mode.specs.declared.RenderMode.{RenderMode}
+use Rattle.state.specs.declared.RenderMode.{RenderMode}
 use Rattle.combiner.specs.declared.Combiner.{Combiner}
-use Rattle.raster.specs.Parts.{parts, from}
-use Rattle.raster.specs.Emitted.{Emit}
+use Rattle.raster_pixel.specs.Parts.{parts, from}
+use Rattle.raster_pixel.specs.Emitted.{Emit}
 use Rattle.frame.specs.Frame.{Frame}
-use Rattle.paint.specs.Steps.{stepFrame}
-use Rattle.paint.specs.Pixel.{Drew}
+use Rattle.frame_paint.specs.Steps.{stepFrame}
+use Rattle.frame_paint.specs.Pixel.{Drew}
 
 pub record Same {S E : Type 0} (step : S → E → S) (ds es : List E) : Type 0 where
   pub state : (s : S) → foldl step s ds ≡ foldl step s es

@@ -6,39 +6,39 @@ use mathlib.Core.List.{List}
 use Prim.Native.Nat.{ℕ, _+_, _*_, _≤_, _<_}
 use native.Mathlib.Omega.{arith}
 use lib.Ieee.{Float}
-use Rattle.num.specs.Color.{f1}
+use Rattle.num_float.specs.Color.{f1}
 use Rattle.combiner.specs.Combine.{colorOf, fullShade}
 use Rattle.combiner.specs.declared.Color.{Color}
-use Rattle.mixer.specs.Mixer.{colorValue, mixedBy}
-use Rattle.range.specs.declared.Range.{Range}
-use Rattle.range.specs.Kept.{Kept}
-use Rattle.edges.specs.declared.Edges.{Edges}
-use Rattle.edges.specs.declared.Tri.{Tri}
-use Rattle.edges.specs.Bound.{noRow}
-use Rattle.edges.specs.Sample.{maskOf}
-use Rattle.edges.specs.Span.{edgesOf}
-use Rattle.vertex.specs.declared.Vertex.{Vertex}
-use Rattle.vertex.specs.declared.row.ShadeRow.{ShadeRow}
-use Rattle.vertex.specs.Row.{rowOf, shadeOn}
-use Rattle.vertex.specs.Shade.{shadeOf}
-use Rattle.vertex.proofs.Rows.{row-shade}
-use Rattle.rectangle.specs.declared.Sides.{Sides}
-use Rattle.rectangle.specs.Outline.{Outlines}
-use Rattle.raster.specs.declared.Area.{Area}
-use Rattle.raster.specs.declared.Fragment.the-variants.{Empty}
-use Rattle.raster.specs.declared.Scissor.{Scissor}
-use Rattle.raster.specs.Area.{areaOf}
-use Rattle.raster.specs.Emitted.{Emit, shown, covered, emits, inside, triangleFragment, rectangleFragment, rectangleEmits}
-use Rattle.raster.specs.Parts.{from}
-use Rattle.raster.proofs.Inside.{bounded, inside-area}
+use Rattle.combiner_resolved.specs.Resolved.{colorValue, mixedBy}
+use Rattle.raster_range.specs.declared.Range.{Range}
+use Rattle.raster_range.specs.Kept.{Kept}
+use Rattle.raster_edges.specs.declared.Edges.{Edges}
+use Rattle.raster_edges.specs.declared.Tri.{Tri}
+use Rattle.raster_edges.specs.Bound.{noRow}
+use Rattle.raster_edges.specs.Sample.{maskOf}
+use Rattle.raster_edges.specs.Span.{edgesOf}
+use Rattle.raster_vertex.specs.declared.Vertex.{Vertex}
+use Rattle.raster_vertex.specs.declared.row.ShadeRow.{ShadeRow}
+use Rattle.raster_vertex.specs.Row.{rowOf, shadeOn}
+use Rattle.raster_vertex.specs.Shade.{shadeOf}
+use Rattle.raster_vertex.proofs.Rows.{row-shade}
+use Rattle.raster_rectangle.specs.declared.Sides.{Sides}
+use Rattle.raster_rectangle.specs.Outline.{Outlines}
+use Rattle.raster_pixel.specs.declared.Area.{Area}
+use Rattle.raster_pixel.specs.declared.Fragment.the-variants.{Empty}
+use Rattle.raster_pixel.specs.declared.Scissor.{Scissor}
+use Rattle.raster_pixel.specs.Area.{areaOf}
+use Rattle.raster_pixel.specs.Emitted.{Emit, shown, covered, emits, inside, triangleFragment, rectangleFragment, rectangleEmits}
+use Rattle.raster_pixel.specs.Parts.{from}
+use Rattle.raster_pixel.proofs.Inside.{bounded, inside-area}
 use Rattle.frame.specs.Frame.{Frame}
-use Rattle.paint.specs.declared.prepare.Paint.{Paint}
-use Rattle.paint.specs.Steps.{stepFrame}
-use Rattle.paint.specs.Pixel.{Drew}
-use Rattle.paint.specs.Paint.{Prepared, Ready}
-use Rattle.paint.specs.Row.{hueOf, pixelOf, rowAt}
-use Rattle.paint.proofs.Drawing.{drew-as}
-use Rattle.paint.proofs.Paints.{any-shade}
+use Rattle.frame_paint.specs.declared.prepare.Paint.{Paint}
+use Rattle.frame_paint.specs.Steps.{stepFrame}
+use Rattle.frame_paint.specs.Pixel.{Drew}
+use Rattle.frame_paint.specs.Paint.{Prepared, Ready}
+use Rattle.frame_paint.specs.Row.{hueOf, pixelOf, rowAt}
+use Rattle.frame_paint.proofs.Drawing.{drew-as}
+use Rattle.frame_paint.proofs.Paints.{any-shade}
 use Rattle.rasterize.specs.declared.rows.Shading.{Shading}
 use Rattle.rasterize.specs.declared.rows.Shading.the-variants.{Flat}
 use Rattle.rasterize.specs.Shape.{shadingOf, shapePixel, shapeRow}
@@ -53,7 +53,7 @@ module _ (paint : Paint) (v : List Vertex) (e : Edges) (w y x : ℕ) where
   unfolding pixelOf hueOf triangleFragment
   smooth-pixel p =
       let s = shadeOn (rowOf v y) x in
-      let color = (λ i. colorValue (mixedBy (p .prepared .mixer i) s)) ∙ sym (p .mixes s) ∙ ap (colorOf (paint .combiner)) (row-shade v x y) in
+      let color = (λ i. colorValue (mixedBy (p .prepared .resolved i) s)) ∙ sym (p .mixes s) ∙ ap (colorOf (paint .combiner)) (row-shade v x y) in
       λ i. emits (cond (shown (paint .mode .antialias) (maskOf e x)) (covered (maskOf e x) (color i) (row-shade v x y i .a)) Empty) (y * w + x)
 
   -- of a flat paint

@@ -2,19 +2,19 @@
 use Prim.Native.Nat.{ℕ}
 use mathlib.Core.Bool.{Bool, true, false, cond}
 use mathlib.Core.List.{List, [], _∷_}
-use Rattle.num.specs.Color.{f0}
-use Rattle.mode.specs.declared.Rgba.{Rgba}
-use Rattle.edges.specs.declared.Tri.{Tri}
-use Rattle.edges.specs.Span.{edgesOf}
-use Rattle.vertex.specs.declared.Vertex.{Vertex}
-use Rattle.vertex.specs.declared.row.Line.{Line}
-use Rattle.vertex.specs.declared.row.ShadeRow.{ShadeRow}
-use Rattle.vertex.specs.Sorted.{vertexAt}
-use Rattle.vertex.specs.Row.{rowOf}
-use Rattle.raster.specs.Parts.{from}
-use Rattle.raster.specs.Emitted.{Emit}
-use Rattle.paint.specs.declared.prepare.Paint.{Paint}
-use Rattle.paint.specs.Row.{rowAt}
+use Rattle.num_float.specs.Color.{f0}
+use Rattle.state.specs.declared.Rgba.{Rgba}
+use Rattle.raster_edges.specs.declared.Tri.{Tri}
+use Rattle.raster_edges.specs.Span.{edgesOf}
+use Rattle.raster_vertex.specs.declared.Vertex.{Vertex}
+use Rattle.raster_vertex.specs.declared.row.Line.{Line}
+use Rattle.raster_vertex.specs.declared.row.ShadeRow.{ShadeRow}
+use Rattle.raster_vertex.specs.Sorted.{vertexAt}
+use Rattle.raster_vertex.specs.Row.{rowOf}
+use Rattle.raster_pixel.specs.Parts.{from}
+use Rattle.raster_pixel.specs.Emitted.{Emit}
+use Rattle.frame_paint.specs.declared.prepare.Paint.{Paint}
+use Rattle.frame_paint.specs.Row.{rowAt}
 use Rattle.rasterize.specs.declared.rows.Shading.{Shading}
 use Rattle.rasterize.specs.declared.rows.Shading.the-variants.{Flat, Smooth}
 

@@ -4,15 +4,15 @@ use mathlib.Core.Bool.{Bool}
 use mathlib.Core.List.{List, [], _∷_, map}
 use lib.Ieee.{Float}
 use lib.ListN.{length}
-use Rattle.mode.specs.declared.RenderMode.{RenderMode}
+use Rattle.state.specs.declared.RenderMode.{RenderMode}
 use Rattle.combiner.specs.declared.Combiner.{Combiner}
-use Rattle.vertex.specs.declared.Vertex.{Vertex}
-use Rattle.vertex.specs.Sorted.{sorted}
-use Rattle.edges.specs.Limits.{AllNear}
-use Rattle.raster.specs.declared.Scissor.{Scissor}
-use Rattle.raster.specs.Parts.{from}
-use Rattle.raster.specs.Admitted.{triangleAt}
-use Rattle.raster.specs.Emitted.{Emit, cornerOf, threeEmits}
+use Rattle.raster_vertex.specs.declared.Vertex.{Vertex}
+use Rattle.raster_vertex.specs.Sorted.{sorted}
+use Rattle.raster_edges.specs.Limits.{AllNear}
+use Rattle.raster_pixel.specs.declared.Scissor.{Scissor}
+use Rattle.raster_pixel.specs.Parts.{from}
+use Rattle.raster_pixel.specs.Admitted.{triangleAt}
+use Rattle.raster_pixel.specs.Emitted.{Emit, cornerOf, threeEmits}
 
 -- the corners of a triangle, sorted and in quarter units, are near enough that nothing overflows
 abbrev pub Placed : Vertex → Vertex → Vertex → Type 0

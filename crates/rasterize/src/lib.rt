@@ -4,21 +4,21 @@ ghost use mathlib.Core.Path.{_≡_};
 ghost use mathlib.Core.Bool.{true};
 ghost use Prim.Native.Nat.{_≤_};
 ghost use lib.ListN.{length};
-ghost use Rattle.raster.specs.Admitted.{admittedOf};
-ghost use Rattle.raster.specs.Area.{Sized};
-ghost use Rattle.raster.specs.Emitted.{rectangleEmits, geometryEmits};
+ghost use Rattle.raster_pixel.specs.Admitted.{admittedOf};
+ghost use Rattle.raster_pixel.specs.Area.{Sized};
+ghost use Rattle.raster_pixel.specs.Emitted.{rectangleEmits, geometryEmits};
 ghost use Rattle.frame.specs.Lent.{old, lent};
-ghost use Rattle.paint.specs.Pixel.{DrewOn, Room};
-ghost use Rattle.paint.specs.Paint.{Prepared, Mixed};
+ghost use Rattle.frame_paint.specs.Pixel.{DrewOn, Room};
+ghost use Rattle.frame_paint.specs.Paint.{Prepared, Mixed};
 use crate::rows::Shading;
 use crate::rows::draw_rows;
 use crate::triangles::draw_triangles;
 use combiner::Combiner;
-use mode::RenderMode;
-use paint::prepare::Paint;
-use raster::Geometry;
-use raster::Scissor;
-use rectangle::Sides;
+use frame_paint::prepare::Paint;
+use raster_pixel::Geometry;
+use raster_pixel::Scissor;
+use raster_rectangle::Sides;
+use state::RenderMode;
 
 pub mod rows; // the rows of a shape
 pub mod triangles; // a triangle, and the triangles of a list
@@ -39,8 +39,8 @@ fn draw_rectangle(
     ensures drew { λ r. ⌜ DrewOn (paint .mode) (paint .combiner) (rectangleEmits (paint .mode) (paint .combiner) scissor width height sides) colors coverages marks r ⌝ }
 {
     let t = sides.outline();
-    let area = raster::scissor_area(scissor, width, height);
-    let rows = edges::rows(t, area.top, area.bottom);
+    let area = raster_pixel::scissor_area(scissor, width, height);
+    let rows = raster_edges::rows(t, area.top, area.bottom);
     if rows.start < rows.end {
         return draw_rows(
             colors,
@@ -81,7 +81,7 @@ pub fn rasterize(
     requires room { ⌜ Room width height (lent colors coverages marks) ⌝ }
     ensures drew { λ r. ⌜ DrewOn mode combiner (geometryEmits mode combiner cull scissor width height (old vertices) (old present) (old indices) geometry) colors coverages marks r ⌝ }
 {
-    let paint = paint::prepare::prepare(mode, combiner);
+    let paint = frame_paint::prepare::prepare(mode, combiner);
     match geometry {
         Geometry::Nothing => 0,
         Geometry::Rectangle(left, top, right, bottom) => {

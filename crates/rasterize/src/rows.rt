@@ -1,19 +1,19 @@
 // The rows of a shape, be it a triangle or a rectangle: in each, the pixels between its edges.
 ghost use mathlib.Core.Path.{_≡_};
 ghost use Prim.Native.Nat.{_<_, _≤_};
-ghost use Rattle.edges.specs.Limits.{TameTri};
-ghost use Rattle.raster.specs.Parts.{from};
+ghost use Rattle.raster_edges.specs.Limits.{TameTri};
+ghost use Rattle.raster_pixel.specs.Parts.{from};
 ghost use Rattle.frame.specs.Lent.{lent};
-ghost use Rattle.paint.specs.Pixel.{DrewOn, Room};
-ghost use Rattle.paint.specs.Paint.{Prepared};
+ghost use Rattle.frame_paint.specs.Pixel.{DrewOn, Room};
+ghost use Rattle.frame_paint.specs.Paint.{Prepared};
 ghost use Rattle.rasterize.specs.Shape.{isFlat, shadingOf, shadesOn, shapeRow};
-use edges::Tri;
-use mode::Rgba;
-use paint::prepare::Paint;
-use paint::rows::draw_row;
-use vertex::Vertex;
-use vertex::row::Line;
-use vertex::row::ShadeRow;
+use frame_paint::prepare::Paint;
+use frame_paint::rows::draw_row;
+use raster_edges::Tri;
+use raster_vertex::Vertex;
+use raster_vertex::row::Line;
+use raster_vertex::row::ShadeRow;
+use state::Rgba;
 
 // How a shape's pixels get their colours: all have the paint's own, or each has its own shade, between those of three vertices.
 pub enum Shading {
@@ -70,7 +70,7 @@ fn shades_on(shading: Shading, y: u32) -> ShadeRow
                 den: 0.0,
             }
         }
-        Shading::Smooth(a, b, c) => vertex::row::shade_row([a, b, c], y),
+        Shading::Smooth(a, b, c) => raster_vertex::row::shade_row([a, b, c], y),
     }
 }
 
@@ -96,8 +96,8 @@ pub fn draw_rows(
     let flat = is_flat(shading);
     let mut n: u64 = 0;
     for y in top..bottom {
-        let edges = edges::edges_at(t, y);
-        let kept = edges::bounds(edges, left, right);
+        let edges = raster_edges::edges_at(t, y);
+        let kept = raster_edges::bounds(edges, left, right);
         let start = kept.start;
         let end = kept.end;
         if start < end {

@@ -1,10 +1,10 @@
 // Whether the port's answer is the recorded one, in the words from `at` on.
 use c_answers::Answer;
 use c_types::Parts;
-use mode::Rgba;
-use sheet::line::Words;
-use sheet::values::float;
-use sheet::values::word;
+use replay_values::line::Words;
+use replay_values::values::float;
+use replay_values::values::word;
+use state::Rgba;
 ghost use Prim.Native.Nat.{_+_, _≤_};
 
 // A word in two's complement: a negative number is the complement of what is left to all ones.

@@ -5,17 +5,17 @@ use crate::answers::same_float;
 use crate::answers::same_rgba;
 use crate::answers::same_selectors;
 use crate::answers::signed;
-use sheet::line::Words;
-use sheet::values;
-use sheet::values::byte;
-use sheet::values::combiner_within;
-use sheet::values::float;
-use sheet::values::mode_within;
-use sheet::values::render_mode;
-use sheet::values::rgba;
-use sheet::values::truth;
-use sheet::values::within;
-use sheet::values::writer_within;
+use replay_values::line::Words;
+use replay_values::values;
+use replay_values::values::byte;
+use replay_values::values::combiner_within;
+use replay_values::values::float;
+use replay_values::values::mode_within;
+use replay_values::values::render_mode;
+use replay_values::values::rgba;
+use replay_values::values::truth;
+use replay_values::values::within;
+use replay_values::values::writer_within;
 
 // Whether the port agrees with a line's words, by the number that the table gives the call.
 pub fn agrees(call: usize, w: &Words) -> bool {
@@ -51,13 +51,13 @@ fn selectors_agree(call: usize, w: &Words) -> bool {
 
 fn numbers_agree(call: usize, w: &Words) -> bool {
     match call {
-        7 => same_float(num::clamp01(float(w[0])), w[1]),
-        8 => num::byte_of(float(w[0])) as u32 == w[1],
-        9 => num::quarter(float(w[0])) == signed(w[1]),
+        7 => same_float(num_float::clamp01(float(w[0])), w[1]),
+        8 => num_float::byte_of(float(w[0])) as u32 == w[1],
+        9 => num_float::quarter(float(w[0])) == signed(w[1]),
         10 => c_numbers::floor_index(float(w[0])) == w[1],
         11 => c_numbers::ceil_index(float(w[0])) == w[1],
-        12 => num::is_finite(float(w[0])) as u32 == w[1],
-        _ => num::le_total(float(w[0]), float(w[1])) as u32 == w[2],
+        12 => num_float::is_finite(float(w[0])) as u32 == w[1],
+        _ => num_float::le_total(float(w[0]), float(w[1])) as u32 == w[2],
     }
 }
 

@@ -1,7 +1,7 @@
 // A line's words, with ` =` before the answers.
 use crate::table::Shape;
-use sheet::line::Words;
-use sheet::line::fill;
+use replay_values::line::Words;
+use replay_values::line::fill;
 ghost use Prim.Native.Nat.{_≤_};
 
 // Puts a line's arguments and, after them, its answers into w. Whether the line has just these.

@@ -11,7 +11,7 @@ mod calls;
 mod line;
 mod table;
 
-use sheet::line::line_end;
+use replay_values::line::line_end;
 use table::CALLS;
 ghost use Prim.Native.Nat.{_<_};
 ghost use mathlib.Core.Path.{_≡_};

@@ -1,16 +1,16 @@
 // Each call: the port is asked with a line's arguments, and its answer held against the line's.
 use crate::text;
 use c_draw::GeometryParts;
-use raster::Scissor;
-use sheet::line::Words;
-use sheet::values::byte;
-use sheet::values::float;
-use sheet::values::index;
-use sheet::values::mode_within;
-use sheet::values::render_mode;
-use sheet::values::truth;
-use sheet::values::uniform;
-use sheet::values::within;
+use raster_pixel::Scissor;
+use replay_values::line::Words;
+use replay_values::values::byte;
+use replay_values::values::float;
+use replay_values::values::index;
+use replay_values::values::mode_within;
+use replay_values::values::render_mode;
+use replay_values::values::truth;
+use replay_values::values::uniform;
+use replay_values::values::within;
 
 // Whether the answers are the same, and the position behind the line's, 0 for a line of another form.
 pub struct Outcome {

@@ -12,7 +12,7 @@ mod tally;
 mod text;
 
 use calls::Outcome;
-use sheet::line::line_end;
+use replay_values::line::line_end;
 use tally::Tally;
 ghost use Prim.Native.Nat.{_≤_};
 ghost use mathlib.Core.Path.{_≡_};

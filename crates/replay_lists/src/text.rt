@@ -1,12 +1,12 @@
 // Reads of the text at a position: words, lists of words and strings of bytes, each after a space. What is not there, or not as
 // asked, gives the position 0, from where no later read comes to the end of its line.
-use sheet::line;
-use sheet::line::Word;
-use sheet::line::Words;
-use sheet::line::digit;
-use sheet::values::byte;
-use sheet::values::float;
-use sheet::values::index;
+use replay_values::line;
+use replay_values::line::Word;
+use replay_values::line::Words;
+use replay_values::line::digit;
+use replay_values::values::byte;
+use replay_values::values::float;
+use replay_values::values::index;
 ghost use Prim.Native.Nat.{_+_, _-_, _≤_};
 ghost use mathlib.Core.Path.{_≡_};
 ghost use lib.ListN.{length};

@@ -4,8 +4,8 @@ use Prim.Native.Nat.{ℕ}
 use mathlib.Core.Bool.{Bool}
 use lib.Ieee.{Float}
 use borrow.Author.Needs.{needs}
-use Rattle.mode.specs.declared.RenderMode.{RenderMode}
-use Rattle.mode.specs.declared.Rgba.{Rgba}
+use Rattle.state.specs.declared.RenderMode.{RenderMode}
+use Rattle.state.specs.declared.Rgba.{Rgba}
 use Rattle.combiner.specs.declared.Combiner.{Combiner}
 use Rattle.blender.specs.declared.Bytes.{Bytes}
 use Rattle.blender.specs.declared.Mux.{Mux}

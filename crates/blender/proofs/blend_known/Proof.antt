@@ -3,7 +3,7 @@ use borrow.Author.Needs.{needs}
 use borrow.Author.Tests.{not-true, not-false}
 use mathlib.Core.Path.{sym, _∙_}
 use mathlib.Core.Bool.{cond}
-use Rattle.blender.specs.declared.Blended.the-variants.{Fallback, Stored}
+use Rattle.blender.specs.declared.Joined.the-variants.{Fallback, Stored}
 use Rattle.blender.specs.Known.{colorKnown}
 use Rattle.blender.specs.Blend.{orZero, blendOf}
 use Rattle.blender.specs.Joined.{orZeros, joined}

@@ -4,8 +4,8 @@ use Prim.Native.Nat.{ℕ}
 use mathlib.Core.Bool.{Bool}
 use lib.Ieee.{Float}
 use borrow.Author.Needs.{needs}
-use Rattle.num.specs.Whole.{byteOf}
-use Rattle.mode.specs.declared.Rgba.{Rgba}
+use Rattle.num_float.specs.Whole.{byteOf}
+use Rattle.state.specs.declared.Rgba.{Rgba}
 use Rattle.blender.specs.declared.Bytes.{Bytes}
 use Rattle.blender.specs.Blend.{mixedOf, bytesOf}
 use Rattle.blender.proofs.in_bytes.Statement.{statement}

@@ -1,7 +1,7 @@
 -- `blender::input` meets its contract: the arm that is taken is the definition's. Assumes nothing.
 use mathlib.Core.Path.{sym, ap, _∙_}
 use Prim.Native.Nat.{ℕ}
-use Rattle.mode.specs.declared.Rgba.{Rgba}
+use Rattle.state.specs.declared.Rgba.{Rgba}
 use Rattle.blender.specs.Blend.{sourceOf}
 use Rattle.blender.proofs.Picked.{pick-rest}
 use borrow.Author.Needs.{needs}

@@ -5,7 +5,7 @@ use lib.Dec.{eqb}
 use lib.Ieee.{le, ofBits}
 use borrow.Author.Tests.{eq-eqb, ne-eqb}
 use borrow.Author.Needs.{needs}
-use Rattle.num.specs.Color.{f1}
+use Rattle.num_float.specs.Color.{f1}
 use Rattle.blender.specs.Known.{reject}
 use Rattle.blender.proofs.rejects.Statement.{statement}
 use Rattle.blender.proofs.rejects.Tie as tie

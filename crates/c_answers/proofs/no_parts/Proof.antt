@@ -1,7 +1,7 @@
 -- `c_answers::no_parts` meets its contract: zeros in every field. Assumes nothing.
 use lib.Ieee.{ofBits}
 use Rattle.combiner.specs.Means.{noCombiner}
-use Rattle.selectors.specs.Inputs.{colorNumber, alphaNumber}
+use Rattle.combiner_inputs.specs.Inputs.{colorNumber, alphaNumber}
 use Rattle.c_types.specs.Convert.{numbersOf, partsOf}
 use borrow.Author.Needs.{needs}
 use Rattle.c_answers.proofs.no_parts.Statement.{statement}

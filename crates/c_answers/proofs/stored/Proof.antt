@@ -1,6 +1,6 @@
 -- `c_answers::stored` meets its contract: arm by arm. Assumes nothing.
 use mathlib.Core.Path.{_∙_}
-use Rattle.pixel.specs.Calls.{destinationMeans}
+use Rattle.writeback_pixel.specs.Calls.{destinationMeans}
 use Rattle.c_answers.specs.Answers.{same}
 use Rattle.c_answers.proofs.Answered.{arm}
 use borrow.Author.Needs.{needs}

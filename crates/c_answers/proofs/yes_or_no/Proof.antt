@@ -1,6 +1,6 @@
 -- `c_answers::yes_or_no` meets its contract: arm by arm. Assumes nothing.
 use mathlib.Core.Path.{_∙_}
-use Rattle.pixel.specs.Calls.{answerMeans}
+use Rattle.writeback_pixel.specs.Calls.{answerMeans}
 use Rattle.c_answers.specs.Answers.{bit}
 use Rattle.c_answers.proofs.Answered.{arm}
 use borrow.Author.Needs.{needs}

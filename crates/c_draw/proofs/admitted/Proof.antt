@@ -1,6 +1,6 @@
 -- `c_draw::admitted` meets its contract: the combiner and the geometry from plain values. Assumes nothing.
 use mathlib.Core.Path.{_∙_}
-use Rattle.raster.specs.Admitted.{admittedOf}
+use Rattle.raster_pixel.specs.Admitted.{admittedOf}
 use borrow.Author.Needs.{needs}
 use Rattle.c_draw.proofs.admitted.Statement.{statement}
 use Rattle.c_draw.proofs.admitted.Tie as tie

@@ -1,7 +1,7 @@
 -- `c_draw::emitted` meets its contract: arm by arm. Assumes nothing.
 use mathlib.Core.Path.{sym, ap, _∙_}
 use lib.Ieee.{ofBits}
-use Rattle.num.specs.Color.{f0}
+use Rattle.num_float.specs.Color.{f0}
 use Rattle.c_draw.specs.Draws.{fragmentAnswer}
 use borrow.Author.Needs.{needs}
 use Rattle.c_draw.proofs.emitted.Statement.{statement}

@@ -1,5 +1,5 @@
 -- `c_draw::geometry_of` meets its contract: each arm gives the case at its number, and the default arm nothing. Assumes nothing.
-use Rattle.raster.specs.declared.Geometry.the-variants.{Nothing}
+use Rattle.raster_pixel.specs.declared.Geometry.the-variants.{Nothing}
 use Rattle.c_draw.specs.Draws.{geometries, geometryFrom}
 use Rattle.c_types.proofs.Cases.{arm, default}
 use Rattle.c_draw.proofs.geometry_of.Statement.{statement}

@@ -1,6 +1,6 @@
 -- `c_draw::pixel` meets its contract: the combiner and the geometry from plain values. Assumes nothing.
 use mathlib.Core.Path.{ap, _∙_}
-use Rattle.probe.specs.Probe.{pixelProbe}
+use Rattle.c_emitted.specs.Probe.{pixelProbe}
 use Rattle.c_draw.specs.Draws.{fragmentAnswer}
 use borrow.Author.Needs.{needs}
 use Rattle.c_draw.proofs.pixel.Statement.{statement}

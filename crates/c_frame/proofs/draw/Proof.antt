@@ -2,7 +2,7 @@
 use mathlib.Core.Path.{ap, _∙_}
 use denote.Ref.{now}
 use Rattle.frame.specs.Frame.{frameOf}
-use Rattle.draw.specs.Draw.{drawArgs, drawAnswer, drawFrame}
+use Rattle.frame_draw.specs.Draw.{drawArgs, drawAnswer, drawFrame}
 use Rattle.c_frame.specs.Frames.{drawnAnswer}
 use borrow.Author.Needs.{needs}
 use Rattle.c_frame.proofs.draw.Statement.{statement}

@@ -1,7 +1,7 @@
 -- `c_frame::drawn` meets its contract: arm by arm. Assumes nothing.
 use mathlib.Core.Path.{sym, ap}
-use Rattle.draw.specs.declared.Drawn.{Drawn}
-use Rattle.draw.specs.Draw.{drawnMeans}
+use Rattle.frame_draw.specs.declared.Drawn.{Drawn}
+use Rattle.frame_draw.specs.Draw.{drawnMeans}
 use Rattle.c_frame.specs.Frames.{drawnAnswer}
 use borrow.Author.Needs.{needs}
 use Rattle.c_frame.proofs.drawn.Statement.{statement}

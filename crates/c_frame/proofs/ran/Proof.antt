@@ -1,8 +1,8 @@
 -- `c_frame::ran` meets its contract: arm by arm. Assumes nothing.
 use mathlib.Core.Path.{sym, ap}
 use mathlib.Core.List.{[]}
-use Rattle.runs.specs.declared.Run.{Run}
-use Rattle.runs.specs.Run.{runMeans}
+use Rattle.words_run.specs.declared.Run.{Run}
+use Rattle.words_run.specs.Run.{runMeans}
 use Rattle.c_frame.specs.Frames.{ranAnswer}
 use borrow.Author.Needs.{needs}
 use Rattle.c_frame.proofs.ran.Statement.{statement}

@@ -2,7 +2,7 @@
 use mathlib.Core.Path.{ap, _∙_}
 use denote.Ref.{now}
 use Rattle.frame.specs.Frame.{frameOf}
-use Rattle.words.specs.Read.{readArgs, readAnswer}
+use Rattle.words_read.specs.Read.{readArgs, readAnswer}
 use Rattle.c_frame.specs.Frames.{wordAnswer}
 use borrow.Author.Needs.{needs}
 use Rattle.c_frame.proofs.read_word.Statement.{statement}

@@ -2,8 +2,8 @@
 use mathlib.Core.Path.{_∙_}
 use denote.Ref.{now}
 use Rattle.frame.specs.Frame.{frameOf}
-use Rattle.words.specs.Read.{readArgs}
-use Rattle.runs.specs.Run.{runAnswer}
+use Rattle.words_read.specs.Read.{readArgs}
+use Rattle.words_run.specs.Run.{runAnswer}
 use Rattle.c_frame.proofs.Runs.{ran-as}
 use borrow.Author.Needs.{needs}
 use Rattle.c_frame.proofs.read_words.Statement.{statement}

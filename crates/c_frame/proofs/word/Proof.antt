@@ -1,7 +1,7 @@
 -- `c_frame::word` meets its contract: arm by arm. Assumes nothing.
 use mathlib.Core.Path.{sym, ap}
-use Rattle.words.specs.declared.Word.{Word}
-use Rattle.words.specs.Read.{wordMeans}
+use Rattle.words_read.specs.declared.Word.{Word}
+use Rattle.words_read.specs.Read.{wordMeans}
 use Rattle.c_frame.specs.Frames.{wordAnswer}
 use borrow.Author.Needs.{needs}
 use Rattle.c_frame.proofs.word.Statement.{statement}

@@ -1,7 +1,7 @@
 -- `c_numbers::ceil_index` meets its contract: an index is at most its cap, and fits. Assumes nothing.
 use native.Mathlib.Omega.{arith}
-use Rattle.num.specs.Whole.{ceil, indexCap}
-use Rattle.num.proofs.Fourfold.{whole-le}
+use Rattle.num_float.specs.Whole.{ceil, indexCap}
+use Rattle.num_float.proofs.Fourfold.{whole-le}
 use borrow.Author.Needs.{needs}
 use Rattle.c_numbers.proofs.ceil_index.Statement.{statement}
 use Rattle.c_numbers.proofs.ceil_index.Tie as tie

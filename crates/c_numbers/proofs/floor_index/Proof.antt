@@ -1,7 +1,7 @@
 -- `c_numbers::floor_index` meets its contract: an index is at most its cap, and fits. Assumes nothing.
 use native.Mathlib.Omega.{arith}
-use Rattle.num.specs.Whole.{floor, indexCap}
-use Rattle.num.proofs.Fourfold.{whole-le}
+use Rattle.num_float.specs.Whole.{floor, indexCap}
+use Rattle.num_float.proofs.Fourfold.{whole-le}
 use borrow.Author.Needs.{needs}
 use Rattle.c_numbers.proofs.floor_index.Statement.{statement}
 use Rattle.c_numbers.proofs.floor_index.Tie as tie

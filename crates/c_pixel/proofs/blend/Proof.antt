@@ -1,5 +1,5 @@
 -- `c_pixel::blend` meets its contract: the mode and the combiner from plain values. Assumes nothing.
-use Rattle.pixel.specs.Calls.{blendMeans, blendCall}
+use Rattle.writeback_pixel.specs.Calls.{blendMeans, blendCall}
 use Rattle.c_answers.specs.Answers.{fourBytes}
 use Rattle.c_answers.proofs.Answered.{answered}
 use borrow.Author.Needs.{needs}

@@ -1,5 +1,5 @@
 -- `c_pixel::color_known` meets its contract: the mode and the coverage from plain values. Assumes nothing.
-use Rattle.pixel.specs.Calls.{answerMeans, colorKnownCall}
+use Rattle.writeback_pixel.specs.Calls.{answerMeans, colorKnownCall}
 use Rattle.c_answers.specs.Answers.{bit}
 use Rattle.c_answers.proofs.Answered.{answered}
 use borrow.Author.Needs.{needs}

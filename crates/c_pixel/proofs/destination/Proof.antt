@@ -1,5 +1,5 @@
 -- `c_pixel::destination` meets its contract: the mode from its numbers. Assumes nothing.
-use Rattle.pixel.specs.Calls.{destinationMeans, destinationCall}
+use Rattle.writeback_pixel.specs.Calls.{destinationMeans, destinationCall}
 use Rattle.c_answers.specs.Answers.{same}
 use Rattle.c_answers.proofs.Answered.{answered}
 use borrow.Author.Needs.{needs}

@@ -1,5 +1,5 @@
 -- `c_pixel::encode` meets its contract: the writer, the bytes, the literal and the byte order from plain values. Assumes nothing.
-use Rattle.pixel.specs.Calls.{encodeMeans, encodeCall}
+use Rattle.writeback_pixel.specs.Calls.{encodeMeans, encodeCall}
 use Rattle.c_answers.specs.Answers.{twoBytes}
 use Rattle.c_answers.proofs.Answered.{answered}
 use borrow.Author.Needs.{needs}

@@ -1,5 +1,5 @@
 -- `c_pixel::pack_color` meets its contract: the bytes from a word. Assumes nothing.
-use Rattle.pixel.specs.Calls.{packColorMeans, packColorCall}
+use Rattle.writeback_pixel.specs.Calls.{packColorMeans, packColorCall}
 use Rattle.c_answers.specs.Answers.{same}
 use Rattle.c_answers.proofs.Answered.{answered}
 use borrow.Author.Needs.{needs}

@@ -1,7 +1,7 @@
 -- `c_pixel::pixel_bytes` meets its contract: the writer from plain values; a size fits, since it is at most four. Assumes nothing.
 use mathlib.Core.Path.{sym, ap, _∙_}
 use native.Mathlib.Omega.{arith}
-use Rattle.pixel.specs.Calls.{pixelBytesMeans, pixelBytesCall}
+use Rattle.writeback_pixel.specs.Calls.{pixelBytesMeans, pixelBytesCall}
 use Rattle.c_answers.specs.Answers.{same}
 use Rattle.c_answers.proofs.Answered.{arm, answered}
 use Rattle.c_pixel.proofs.Sizes.{size-small}

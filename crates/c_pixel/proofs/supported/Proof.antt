@@ -1,5 +1,5 @@
 -- `c_pixel::supported` meets its contract: the writer from plain values. Assumes nothing.
-use Rattle.pixel.specs.Calls.{answerMeans, supportedCall}
+use Rattle.writeback_pixel.specs.Calls.{answerMeans, supportedCall}
 use Rattle.c_answers.specs.Answers.{bit}
 use Rattle.c_answers.proofs.Answered.{answered}
 use borrow.Author.Needs.{needs}

@@ -1,5 +1,5 @@
 -- `c_types::alpha_compare` meets its contract: each arm gives the case at its number, and the default arm the last. Assumes nothing.
-use Rattle.mode.specs.declared.AlphaCompare.the-variants.{Dither}
+use Rattle.state.specs.declared.AlphaCompare.the-variants.{Dither}
 use Rattle.c_types.specs.Convert.{alphaCompares, alphaCompareOf}
 use Rattle.c_types.proofs.Cases.{arm, default}
 use Rattle.c_types.proofs.alpha_compare.Statement.{statement}

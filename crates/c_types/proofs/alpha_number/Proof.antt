@@ -1,7 +1,7 @@
 -- `c_types::alpha_number` meets its contract, arm by arm. Assumes nothing.
 use mathlib.Core.Path.{sym, ap}
 use borrow.Author.Needs.{needs}
-use Rattle.selectors.specs.Inputs.{alphaNumber}
+use Rattle.combiner_inputs.specs.Inputs.{alphaNumber}
 use Rattle.c_types.proofs.alpha_number.Statement.{statement}
 use Rattle.c_types.proofs.alpha_number.Tie as tie
 

@@ -1,5 +1,5 @@
 -- `c_types::alpha_of_number` meets its contract: each arm gives the case at its number, and the default arm the last. Assumes nothing.
-use Rattle.selectors.specs.declared.AlphaIn.the-variants.{PrimLodFrac}
+use Rattle.combiner_inputs.specs.declared.AlphaIn.the-variants.{PrimLodFrac}
 use Rattle.c_types.specs.Convert.{alphaInputs, alphaInOf}
 use Rattle.c_types.proofs.Cases.{arm, default}
 use Rattle.c_types.proofs.alpha_of_number.Statement.{statement}

@@ -1,5 +1,5 @@
 -- `c_types::blend_class` meets its contract: each arm gives the case at its number, and the default arm the last. Assumes nothing.
-use Rattle.mode.specs.declared.BlendClass.the-variants.{DualSrc}
+use Rattle.state.specs.declared.BlendClass.the-variants.{DualSrc}
 use Rattle.c_types.specs.Convert.{blendClasses, blendClassOf}
 use Rattle.c_types.proofs.Cases.{arm, default}
 use Rattle.c_types.proofs.blend_class.Statement.{statement}

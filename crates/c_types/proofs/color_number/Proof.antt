@@ -1,7 +1,7 @@
 -- `c_types::color_number` meets its contract, arm by arm. Assumes nothing.
 use mathlib.Core.Path.{sym, ap}
 use borrow.Author.Needs.{needs}
-use Rattle.selectors.specs.Inputs.{colorNumber}
+use Rattle.combiner_inputs.specs.Inputs.{colorNumber}
 use Rattle.c_types.proofs.color_number.Statement.{statement}
 use Rattle.c_types.proofs.color_number.Tie as tie
 

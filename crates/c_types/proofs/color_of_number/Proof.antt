@@ -1,5 +1,5 @@
 -- `c_types::color_of_number` meets its contract: each arm gives the case at its number, and the default arm the last. Assumes nothing.
-use Rattle.selectors.specs.declared.ColorIn.the-variants.{Noise}
+use Rattle.combiner_inputs.specs.declared.ColorIn.the-variants.{Noise}
 use Rattle.c_types.specs.Convert.{colorInputs, colorInOf}
 use Rattle.c_types.proofs.Cases.{arm, default}
 use Rattle.c_types.proofs.color_of_number.Statement.{statement}

@@ -1,5 +1,5 @@
 -- `c_types::z_mode` meets its contract: each arm gives the case at its number, and the default arm the last. Assumes nothing.
-use Rattle.mode.specs.declared.ZMode.the-variants.{Decal}
+use Rattle.state.specs.declared.ZMode.the-variants.{Decal}
 use Rattle.c_types.specs.Convert.{zModes, zModeOf}
 use Rattle.c_types.proofs.Cases.{arm, default}
 use Rattle.c_types.proofs.z_mode.Statement.{statement}

@@ -2,7 +2,7 @@
 use mathlib.Core.Path.{refl, sym, ap}
 use mathlib.Core.List.{[], _∷_}
 use lib.Ieee.{ofBits}
-use Rattle.selectors.specs.declared.AlphaIn.{AlphaIn}
+use Rattle.combiner_inputs.specs.declared.AlphaIn.{AlphaIn}
 use Rattle.combiner.specs.declared.Input.{Input}
 use Rattle.combiner.specs.Combine.{alphaInput}
 use Rattle.combiner.proofs.Tags.{others, alphas, alpha-one-of}

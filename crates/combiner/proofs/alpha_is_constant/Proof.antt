@@ -2,7 +2,7 @@
 use mathlib.Core.Path.{refl}
 use mathlib.Core.List.{[], _∷_}
 use Rattle.combiner.specs.Strict.{constantAlpha}
-use Rattle.selectors.specs.Inputs.{alphaNumber}
+use Rattle.combiner_inputs.specs.Inputs.{alphaNumber}
 use Rattle.combiner.proofs.Tags.{others, alphas, alpha-one-of}
 use Rattle.combiner.proofs.alpha_is_constant.Statement.{statement}
 use Rattle.combiner.proofs.alpha_is_constant.Tie as tie

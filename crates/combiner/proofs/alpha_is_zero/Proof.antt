@@ -2,7 +2,7 @@
 use mathlib.Core.Path.{refl, sym, ap}
 use mathlib.Core.List.{[], _∷_}
 use Rattle.combiner.specs.Strict.{zeroAlpha}
-use Rattle.selectors.specs.Inputs.{alphaNumber}
+use Rattle.combiner_inputs.specs.Inputs.{alphaNumber}
 use Rattle.combiner.proofs.Tags.{others, alphas, alpha-one-of}
 use borrow.Author.Needs.{needs}
 use Rattle.combiner.proofs.alpha_is_zero.Statement.{statement}

@@ -2,7 +2,7 @@
 use mathlib.Core.Path.{refl, sym, ap, _∙_}
 use mathlib.Core.List.{[], _∷_}
 use lib.Ieee.{ofBits}
-use Rattle.selectors.specs.declared.ColorIn.{ColorIn}
+use Rattle.combiner_inputs.specs.declared.ColorIn.{ColorIn}
 use Rattle.combiner.specs.declared.Input.{Input}
 use Rattle.combiner.specs.declared.Input.the-variants.{Value}
 use Rattle.combiner.specs.Combine.{colorInput}

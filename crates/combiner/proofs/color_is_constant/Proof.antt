@@ -2,7 +2,7 @@
 use mathlib.Core.Path.{refl}
 use mathlib.Core.List.{[], _∷_}
 use Rattle.combiner.specs.Strict.{constantColor}
-use Rattle.selectors.specs.Inputs.{colorNumber}
+use Rattle.combiner_inputs.specs.Inputs.{colorNumber}
 use Rattle.combiner.proofs.Tags.{others, colors, color-one-of}
 use Rattle.combiner.proofs.color_is_constant.Statement.{statement}
 use Rattle.combiner.proofs.color_is_constant.Tie as tie

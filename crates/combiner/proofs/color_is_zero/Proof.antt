@@ -2,7 +2,7 @@
 use mathlib.Core.Path.{refl, sym, ap}
 use mathlib.Core.List.{[], _∷_}
 use Rattle.combiner.specs.Strict.{zeroColor}
-use Rattle.selectors.specs.Inputs.{colorNumber}
+use Rattle.combiner_inputs.specs.Inputs.{colorNumber}
 use Rattle.combiner.proofs.Tags.{others, colors, color-one-of}
 use borrow.Author.Needs.{needs}
 use Rattle.combiner.proofs.color_is_zero.Statement.{statement}

@@ -4,7 +4,7 @@ use Prim.Native.Nat.{ℕ, _+_, _≤_}
 use native.Mathlib.Omega.{arith}
 use mathlib.Core.Bool.{Bool, true, false, cond, _&&_}
 use lib.Ieee.{Float, eq, ofBits}
-use Rattle.num.specs.Color.{f1}
+use Rattle.num_float.specs.Color.{f1}
 use Rattle.combiner.specs.declared.Strict.the-variants.{Word, Nothing}
 use Rattle.combiner.specs.Strict.{pure, filled, wordOf}
 use borrow.Author.Needs.{needs}

@@ -1,8 +1,8 @@
 -- `draw_rectangle` meets its contract: the rows of its edges, or nothing where it has none.
 use native.Mathlib.Omega.{arith}
-use Rattle.paint.proofs.Drawing.{room-less}
-use Rattle.raster.proofs.Inside.{bounded}
-use Rattle.raster.proofs.Parts.{from-none}
+use Rattle.frame_paint.proofs.Drawing.{room-less}
+use Rattle.raster_pixel.proofs.Inside.{bounded}
+use Rattle.raster_pixel.proofs.Parts.{from-none}
 use Rattle.rasterize.proofs.Kept.{drew-nothing}
 use Rattle.rasterize.proofs.Shapes.{rectangle-drawn}
 use borrow.Author.Needs.{needs}

@@ -1,7 +1,7 @@
 -- `layer::layer_of` meets its contract: P, A and B at the selectors that `decode_mux` gives. `ofBits` opens 0.0, which the code has by its bits.
 use mathlib.Core.Path.{_≡_, _∙_}
 use lib.Ieee.{binary32, mul, ofBits}
-use Rattle.num.specs.Color.{f0}
+use Rattle.num_float.specs.Color.{f0}
 use Rattle.blender.specs.Mux.{muxOf}
 use Rattle.blender.specs.Blend.{factorA, factorB}
 use Rattle.blender.specs.Layer.{layerOf}

@@ -3,7 +3,7 @@ use mathlib.Core.Path.{_≡_, sym, _∙_}
 use Rattle.combiner.specs.declared.Input.the-variants.{Value}
 use Rattle.combiner.specs.Combine.{channelAt, alphaAt, joined, colorOf}
 use Rattle.combiner.specs.Means.{colorMeans}
-use Rattle.selectors.proofs.Meant.{meant}
+use Rattle.combiner_inputs.proofs.Meant.{meant}
 use Rattle.combiner.proofs.Means.{color-means}
 use borrow.Author.Needs.{needs}
 use Rattle.combiner.proofs.Combiner.color.Statement.{statement}

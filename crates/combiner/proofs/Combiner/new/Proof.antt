@@ -7,7 +7,7 @@ use Rattle.combiner.specs.declared.Made.the-variants.{Without}
 use Rattle.combiner.specs.Combine.{colorOf, fullShade}
 use Rattle.combiner.specs.New.{plain, combinerOf, ifColored, newOf}
 use Rattle.combiner.specs.Means.{madeMeans}
-use Rattle.selectors.proofs.Meant.{meant}
+use Rattle.combiner_inputs.proofs.Meant.{meant}
 use Rattle.combiner.proofs.Means.{new-means}
 use borrow.Author.Needs.{needs}
 use Rattle.combiner.proofs.Combiner.new.Statement.{statement}

@@ -5,7 +5,7 @@ use Rattle.combiner.specs.declared.Strict.the-variants.{Nothing}
 use Rattle.combiner.specs.Combine.{colorOf, fullShade}
 use Rattle.combiner.specs.Strict.{flat, wordOfColor, strictOf}
 use Rattle.combiner.specs.Means.{strictMeans}
-use Rattle.selectors.proofs.Meant.{meant}
+use Rattle.combiner_inputs.proofs.Meant.{meant}
 use Rattle.combiner.proofs.Means.{strict-means}
 use borrow.Author.Needs.{needs}
 use Rattle.combiner.proofs.Combiner.strict_color.Statement.{statement}

@@ -6,7 +6,7 @@ use mathlib.Core.Logic.{⊎-elim}
 use mathlib.Core.Path.{refl}
 use borrow.Author.Needs.{needs}
 use Rattle.frame.specs.Frame.{frameOf}
-use Rattle.paint.proofs.Drawing.{Drawing, drawing-start, drawing-fits, drawing-more, drawing-done, room-now, room-row, same-colors, same-coverages, same-marks}
+use Rattle.frame_paint.proofs.Drawing.{Drawing, drawing-start, drawing-fits, drawing-more, drawing-done, room-now, room-row, same-colors, same-coverages, same-marks}
 use Rattle.rasterize.specs.Shape.{shapeRow}
 use Rattle.rasterize.proofs.Kept.{row-none, row-drawn, rows-most, drawing-skip, drawing-at}
 use Rattle.rasterize.proofs.rows.draw_rows.Statement.{statement}

@@ -1,7 +1,7 @@
 -- `shades_on` meets its contract.
 use mathlib.Core.Path.{sym, ap, _∙_}
 use lib.Ieee.{ofBits}
-use Rattle.vertex.specs.declared.row.ShadeRow.{ShadeRow}
+use Rattle.raster_vertex.specs.declared.row.ShadeRow.{ShadeRow}
 use Rattle.rasterize.specs.declared.rows.Shading.{Shading}
 use Rattle.rasterize.specs.Shape.{shadesOn}
 use borrow.Author.Needs.{needs}

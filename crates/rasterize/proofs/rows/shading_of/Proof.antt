@@ -1,7 +1,7 @@
 -- `shading_of` meets its contract.
 use mathlib.Core.Path.{sym}
 use mathlib.Core.Bool.{cond}
-use Rattle.vertex.specs.Sorted.{vertexAt}
+use Rattle.raster_vertex.specs.Sorted.{vertexAt}
 use Rattle.rasterize.specs.declared.rows.Shading.the-variants.{Flat, Smooth}
 use borrow.Author.Needs.{needs}
 use Rattle.rasterize.proofs.rows.shading_of.Statement.{statement}

@@ -4,9 +4,9 @@ use mir.Val.{ofZ, toZ}
 use mir.ValLaws.{toZ-ofZ}
 use mathlib.Core.Path.{refl, ap, sym, _∙_}
 use native.Mathlib.Omega.{arith}
-use Rattle.paint.proofs.Drawing.{room-less}
-use Rattle.raster.proofs.Inside.{bounded}
-use Rattle.raster.proofs.Parts.{from-none}
+use Rattle.frame_paint.proofs.Drawing.{room-less}
+use Rattle.raster_pixel.proofs.Inside.{bounded}
+use Rattle.raster_pixel.proofs.Parts.{from-none}
 use Rattle.rasterize.proofs.Kept.{drew-nothing}
 use Rattle.rasterize.proofs.Corners.{near, tame-as, culled-none, area-none, triangle-drawn}
 use borrow.Author.Needs.{needs}

@@ -4,12 +4,12 @@ use native.Mathlib.Nat.{le-trans}
 use native.Mathlib.Omega.{arith}
 use mathlib.Core.Path.{refl}
 use Rattle.frame.specs.Frame.{frameOf}
-use Rattle.paint.proofs.Drawing.{Drawing, drawing-start, drawing-fits, drawing-more, drawing-done, room-now, same-colors, same-coverages, same-marks}
+use Rattle.frame_paint.proofs.Drawing.{Drawing, drawing-start, drawing-fits, drawing-more, drawing-done, room-now, same-colors, same-coverages, same-marks}
 use denote.Ref.{now}
 use lib.ListN.{length}
-use Rattle.raster.specs.Admitted.{triangleAt}
-use Rattle.raster.specs.Emitted.{threeEmits}
-use Rattle.raster.proofs.Counts.{triangles-most}
+use Rattle.raster_pixel.specs.Admitted.{triangleAt}
+use Rattle.raster_pixel.specs.Emitted.{threeEmits}
+use Rattle.raster_pixel.proofs.Counts.{triangles-most}
 use Rattle.rasterize.proofs.triangles.draw_triangles.Statement.{statement}
 use Rattle.rasterize.proofs.triangles.draw_triangles.Tie as tie
 

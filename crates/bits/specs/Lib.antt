@@ -1,2 +1,0 @@
--- The definitions that the contracts of `bits` cite.
-pub mod Field

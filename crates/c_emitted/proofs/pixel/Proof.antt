@@ -1,0 +1,93 @@
+-- `pixel` meets its contract: a column or row too large is told first, then the three cases of a geometry. Assumes nothing.
+use Prim.Native.Nat.{ℕ}
+use mathlib.Core.Path.{_≡_, sym, ap, _∙_}
+use mathlib.Core.Bool.{Bool, false, _||_}
+use borrow.Author.Tests.{le-leb, lt-leb}
+use lib.Dec.{leb}
+use Rattle.combiner.specs.declared.Color.{Color}
+use Rattle.combiner.specs.Combine.{colorOf}
+use Rattle.raster_rectangle.specs.declared.Sides.{Sides}
+use Rattle.raster_pixel.specs.declared.Geometry.{Geometry}
+use Rattle.raster_pixel.specs.Emitted.{rectangleFragment}
+use Rattle.raster_admitted.proofs.Choices.{taken, passed, or-first, or-next}
+use Rattle.c_emitted.specs.Probe.{geometryProbe, pixelProbe}
+use borrow.Author.Needs.{needs}
+use Rattle.c_emitted.proofs.pixel.Statement.{statement}
+use Rattle.c_emitted.proofs.pixel.Tie as tie
+
+recolored : (antialias : Bool) (sides : Sides) (y x : ℕ) {k l : Color} → k ≡ l → rectangleFragment antialias k sides y x ≡ rectangleFragment antialias l sides y x
+recolored antialias sides y x e = λ i. rectangleFragment antialias (e i) sides y x
+
+-- the pixel lies in the largest frame
+small : (c : tie.Else2) → (let s = c .before .before .before .before .before .args in leb 1024 (s .x) || leb 1024 (s .y) ≡ false)
+small c = or-next (lt-leb _ _ (c .before .if1 .left)) (lt-leb _ _ (c .if2 .left))
+
+-- the geometry's case is known
+by-case : (c : tie.Else2) {g : Geometry}
+    → (let s = c .before .before .before .before .before .args in
+    s .geometry ≡ g
+    → geometryProbe (s .antialias) (s .combiner) (s .cull) (s .vertices .now) (s .present .now) (s .indices .now) (s .i) (s .y) (s .x) g
+    ≡ pixelProbe (s .antialias) (s .combiner) (s .cull) (s .geometry) (s .vertices .now) (s .present .now) (s .indices .now) (s .i) (s .y) (s .x))
+unfolding pixelProbe
+by-case c e =
+    let s = c .before .before .before .before .before .args in
+    passed _ _ _ (small c) (sym (ap (geometryProbe (s .antialias) (s .combiner) (s .cull) (s .vertices .now) (s .present .now) (s .indices .now) (s .i) (s .y) (s .x)) e))
+
+returns : tie.Need-returns
+unfolding pixelProbe
+returns c = taken _ _ _ (or-first _ (le-leb _ _ (c .if1 .taken)))
+
+returns-2 : tie.Need-returns-2
+unfolding pixelProbe
+returns-2 c = taken _ _ _ (or-next (lt-leb _ _ (c .before .if1 .left)) (le-leb _ _ (c .if2 .taken)))
+
+enum-told : tie.Need-enum-told
+enum-told c = search needs
+
+enum-known-geometry : tie.Need-enum-known-geometry
+enum-known-geometry c = search needs
+
+full-shade-requires : tie.Need-full-shade-requires
+full-shade-requires c κs = search needs
+
+color-requires : tie.Need-color-requires
+color-requires c κs = search needs
+
+rectangle-pixel-requires : tie.Need-rectangle-pixel-requires
+rectangle-pixel-requires c κs = search needs
+
+enum-told-2 : tie.Need-enum-told-2
+enum-told-2 c = search needs
+
+indexed-requires : tie.Need-indexed-requires
+indexed-requires c κs = search needs
+
+returns-3 : tie.Need-returns-3
+returns-3 c = by-case (c .before .before) (c .enum-told .given .1)
+
+returns-4 : tie.Need-returns-4
+returns-4 c =
+    let w = c .before .before .before .before .before .before in
+    let s = w .before .before .before .before .before .args in
+    let k = c .before .color .ensures .1 ∙ ap (colorOf (s .combiner)) (c .before .before .full-shade .ensures) in
+    c .rectangle-pixel .ensures ∙ recolored _ _ _ _ k ∙ by-case w (c .before .before .before .before .geometry .given .1)
+
+returns-5 : tie.Need-returns-5
+returns-5 c = c .indexed .ensures ∙ by-case (c .before .before .before) (c .before .enum-told2 .given .1)
+
+pub pixel-spec : {M : Type 1} → statement M
+pixel-spec =
+    tie.close
+    (tie.spec
+    returns
+    returns-2
+    enum-told
+    enum-known-geometry
+    full-shade-requires
+    color-requires
+    rectangle-pixel-requires
+    enum-told-2
+    indexed-requires
+    returns-3
+    returns-4
+    returns-5)

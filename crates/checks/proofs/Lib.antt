@@ -1,2 +1,0 @@
--- What several proofs of `checks` and of the crates above it share.
-pub mod Choices

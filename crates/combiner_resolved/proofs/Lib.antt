@@ -1,0 +1,3 @@
+-- The laws of `combiner_resolved` for the crates above it.
+pub mod Flat
+pub mod Mixes

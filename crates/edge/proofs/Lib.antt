@@ -1,5 +1,0 @@
--- What the proofs of `edge` share, and the laws that callers cite.
-pub mod Bits
-pub mod Size
-pub mod Held
-pub mod Clamped

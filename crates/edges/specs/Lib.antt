@@ -1,7 +1,0 @@
--- The definitions that the contracts of `edges` cite.
-pub mod Edge
-pub mod Span
-pub mod Lines
-pub mod Sample
-pub mod Bound
-pub mod Limits

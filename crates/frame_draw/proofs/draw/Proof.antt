@@ -1,0 +1,63 @@
+-- `draw` meets its contract: answer and frame follow from the plan.
+use denote.Ref.{now}
+use Rattle.frame_draw.specs.Draw.{drawArgs}
+use Rattle.frame_draw.proofs.Plans.{draw-refused, drawable, draw-accepted}
+use borrow.Author.Needs.{needs}
+use Rattle.frame_draw.proofs.draw.Statement.{statement}
+use Rattle.frame_draw.proofs.draw.Tie as tie
+
+accept-requires : tie.Need-accept-requires
+accept-requires c κs = search needs
+
+enum-known-number : tie.Need-enum-known-number
+enum-known-number c = search needs
+
+enum-known-combiner : tie.Need-enum-known-combiner
+enum-known-combiner c = search needs
+
+rasterize-requires : tie.Need-rasterize-requires
+rasterize-requires c κs =
+    let a = c .before .before .before .before .before .before .before .before .before .before .before .before .before .before .before .before .args in
+    drawable (drawArgs (a .mode) (a .uniform) (a .cull) (a .scissor) (a .geometry) (now (a .vertices)) (now (a .present)) (now (a .indices))) _ _ _ _
+    (c .before .before .before .before .before .before .accept .ensures) (c .before .before .before .before .combiner .given .1)
+
+same-length : tie.Need-same-length
+same-length c = search needs
+
+same-length-2 : tie.Need-same-length-2
+same-length-2 c = search needs
+
+same-length-3 : tie.Need-same-length-3
+same-length-3 c = search needs
+
+returns : tie.Need-returns
+returns c = draw-refused _ _ _ _ _ (c .before .before .before .accept .ensures) (c .before .number .given .1)
+
+same-length-4 : tie.Need-same-length-4
+same-length-4 c = search needs
+
+same-length-5 : tie.Need-same-length-5
+same-length-5 c = search needs
+
+same-length-6 : tie.Need-same-length-6
+same-length-6 c = search needs
+
+returns-2 : tie.Need-returns-2
+returns-2 c = draw-accepted _ _ _ _ _ (c .before .before .before .before .before .before .before .before .before .before .before .before .before .accept .ensures) (c .before .before .before .before .before .before .before .before .before .before .before .combiner .given .1) (c .before .before .before .before .before .before .rasterize .ensures)
+
+pub draw-spec : {M : Type 1} → statement M
+draw-spec =
+    tie.close
+    (tie.spec
+    accept-requires
+    enum-known-number
+    enum-known-combiner
+    rasterize-requires
+    same-length
+    same-length-2
+    same-length-3
+    returns
+    same-length-4
+    same-length-5
+    same-length-6
+    returns-2)

@@ -1,0 +1,4 @@
+-- The definitions that the contracts of `frame_draw` cite.
+pub mod Checks
+pub mod Draw
+pub mod Answered

@@ -1,0 +1,118 @@
+// A draw over the lent frame (docs/RULES.md, A draw). What it is turned away for is checked before anything is written.
+ghost use mathlib.Core.Path.{_≡_};
+ghost use Rattle.frame.specs.Lent.{before, after};
+ghost use Rattle.frame_draw.specs.Draw.{drawOf, drawnMeans, drawAnswer, drawFrame, Numbered};
+ghost use Rattle.frame_draw.specs.Answered.{Planned};
+use combiner::Combiner;
+use combiner::Made;
+use raster_pixel::Geometry;
+use raster_pixel::Scissor;
+use state::CombinerUniform;
+use state::RenderMode;
+
+mod refusal; // numbers 4 and 5
+
+pub enum Drawn {
+    Emitted(u64),
+    Refused(u8),
+}
+
+// What numbers 1 to 7 say of a draw: its combiner, or the first that holds.
+pub enum Accepted {
+    With(Combiner),
+    Refused(u8),
+}
+
+fn accept(
+    width: u32,
+    height: u32,
+    colors: &[u8],
+    coverages: &[u8],
+    marks: &[u8],
+    mode: RenderMode,
+    uniform: CombinerUniform,
+    cull: bool,
+    scissor: Scissor,
+    geometry: Geometry,
+    vertices: &[f32],
+    present: &[u8],
+    indices: &[u32],
+) -> Accepted
+    ensures plan { λ r. ⌜ Planned (drawOf mode uniform cull scissor geometry vertices present indices) width height (before colors coverages marks) r ⌝ }
+{
+    let refusal = refusal::entry_refusal(
+        colors,
+        coverages,
+        marks,
+        width,
+        height,
+        scissor,
+        vertices,
+        present,
+        indices,
+    );
+    if refusal != 0 {
+        return Accepted::Refused(refusal);
+    }
+    let Made::With(combiner) = Combiner::new(uniform, mode) else {
+        return Accepted::Refused(6);
+    };
+    if !raster_pixel::admitted(combiner, geometry, vertices, present, indices) {
+        return Accepted::Refused(7);
+    }
+    Accepted::With(combiner)
+}
+
+// A draw: the pixels that it emits, one after the other, and their count; or the first of numbers 1 to 7 that holds.
+pub fn draw(
+    width: u32,
+    height: u32,
+    colors: &mut [u8],
+    coverages: &mut [u8],
+    marks: &mut [u8],
+    mode: RenderMode,
+    uniform: CombinerUniform,
+    cull: bool,
+    scissor: Scissor,
+    geometry: Geometry,
+    vertices: &[f32],
+    present: &[u8],
+    indices: &[u32],
+) -> Drawn
+    ensures answer { λ r. ⌜ drawnMeans r ≡ drawAnswer (drawOf mode uniform cull scissor geometry vertices present indices) width height (before colors coverages marks) ⌝ }
+    ensures frame { λ r. ⌜ after colors coverages marks ≡ drawFrame (drawOf mode uniform cull scissor geometry vertices present indices) width height (before colors coverages marks) ⌝ }
+    ensures number { λ r. ⌜ Numbered r ⌝ }
+{
+    match accept(
+        width,
+        height,
+        colors,
+        coverages,
+        marks,
+        mode,
+        uniform,
+        cull,
+        scissor,
+        geometry,
+        vertices,
+        present,
+        indices,
+    ) {
+        Accepted::Refused(number) => Drawn::Refused(number),
+        Accepted::With(combiner) => Drawn::Emitted(rasterize::rasterize(
+            colors,
+            coverages,
+            marks,
+            mode,
+            combiner,
+            cull,
+            scissor,
+            width,
+            height,
+            geometry,
+            vertices,
+            present,
+            indices,
+        )),
+    }
+}

@@ -1,0 +1,132 @@
+-- A full pixel of one colour: what is stored of it, and that this is a step of the rules. Assumes nothing.
+use mathlib.Core.Path.{_≡_, refl, sym, ap, subst, _∙_}
+use mathlib.Core.Bool.{Bool, true, false, cond, _||_, not}
+use mathlib.Core.List.{List}
+use Prim.Native.Nat.{ℕ, zero, suc, _+_, _-_, _*_, _≤_, _<_}
+use native.Mathlib.Omega.{arith}
+use lib.Count.{ones, ones-step}
+use lib.ListN.{length, getD, set}
+use Rattle.num_float.specs.Color.{f1}
+use Rattle.state.specs.declared.RenderMode.{RenderMode}
+use Rattle.state.specs.declared.Rgba.{Rgba}
+use Rattle.combiner.specs.declared.Combiner.{Combiner}
+use Rattle.blender.specs.declared.Coverage.the-variants.{Unknown, Known}
+use Rattle.raster_edges.specs.Sample.{countOf}
+use Rattle.frame_pixel.specs.declared.Pixel.{Pixel}
+use Rattle.frame_pixel.specs.declared.Colors.{Colors}
+use Rattle.frame_pixel.specs.declared.full.Full.{Full}
+use Rattle.frame_pixel.specs.Marks.{colorMarked, coverageMarked, unknown, markOf}
+use Rattle.frame_pixel.specs.Rules.{ruleF4, coverageByte, coverageAt, assembled}
+use Rattle.frame_pixel.specs.Coloring.{overColors}
+use Rattle.frame_pixel.specs.Full.{FullOf, Enough, fullKnown, fullColors, fullCoverage, fullWith, fullStep}
+use Rattle.frame_pixel.proofs.Fulls.{full-step}
+use Rattle.raster_pixel.specs.Parts.{parts, from}
+use Rattle.frame.specs.Frame.{Frame, frameOf, pixelAt, putPixel}
+use Rattle.frame.specs.Fits.{Long, Fit, putIf, colorsAt, colorsIf, storedAt}
+use Rattle.frame_paint.specs.Steps.{sourceOf, stepFrame}
+use Rattle.frame_paint.specs.Pixel.{Drew, emitOf}
+use Rattle.frame_paint.specs.Row as row
+use Rattle.frame_paint.proofs.Fits.{fit-step}
+use Rattle.frame_paint.proofs.Steps.{set-back, three-back}
+
+-- ---- what is stored
+module _ (fills settles : Bool) (cs : List ℕ) (p : ℕ) (h : p < length cs) where
+  full-coverage :
+      (m : Bool) → putIf (cond m fills settles) cs p 7 ≡ set cs p (coverageByte (fullCoverage fills settles (cond m (Known (getD cs p 0)) Unknown)) (getD cs p 0))
+  full-coverage true = go fills
+    where
+      go : (b : Bool) → putIf b cs p 7 ≡ set cs p (cond b 7 (getD cs p 0))
+      go true = refl
+      go false = sym (set-back cs p h)
+  full-coverage false = go settles
+    where
+      go : (b : Bool) → putIf b cs p 7 ≡ set cs p (coverageByte (cond b (Known 7) Unknown) (getD cs p 0))
+      go true = refl
+      go false = sym (set-back cs p h)
+
+full-colors :
+    (known : Bool) (l : List ℕ) (p : ℕ) (new : Colors) → 3 * p + 2 < length l
+    → putIf known (putIf known (putIf known l (3 * p) (new .red)) (3 * p + 1) (new .green)) (3 * p + 2) (new .blue)
+    ≡ (let c = cond known new (colorsAt l p) in set (set (set l (3 * p) (c .red)) (3 * p + 1) (c .green)) (3 * p + 2) (c .blue))
+full-colors true l p new h = refl
+full-colors false l p new h = sym (three-back l (3 * p) h)
+
+full-covered : (m fills settles : Bool) (c : ℕ) → (m || settles) ≡ not (unknown (fullCoverage fills settles (cond m (Known c) Unknown)))
+full-covered true fills settles c = refl
+full-covered false fills true c = refl
+full-covered false fills false c = refl
+
+-- the memory's bytes are looked at where they are known
+looked : (l marked o : Bool) (over : Colors → Colors) (own memory : Colors)
+    → cond (cond l marked o) (cond l (over (colorsIf marked memory)) own) memory ≡ cond (cond l marked o) (cond l (over memory) own) memory
+looked true true o over own memory = refl
+looked true false o over own memory = refl
+looked false marked o over own memory = refl
+
+module _ (full : Full) (f : Frame) (p : ℕ) (place : p < length (f .marks)) (long : Long f) where
+  pub filled :
+      {m known s : Bool} {new : Colors} {a : ℕ} {g : Frame} → m ≡ coverageMarked (getD (f .marks) p 0)
+      → known ≡ cond (full .layered) (colorMarked (getD (f .marks) p 0)) (full .sure || m)
+      → new ≡ cond (full .layered) (overColors (full .layer) (colorsIf (colorMarked (getD (f .marks) p 0)) (colorsAt (f .colors) p))) (full .own)
+      → s ≡ cond m (full .fills) (full .settles) → a ≡ markOf known (m || full .settles) → g ≡ storedAt f p known new s 7 a
+      → g ≡ row.filledAt full f p
+  unfolding fullStep fullWith assembled
+  filled em ek en es ea eg =
+      let x = pixelAt f p in
+      let marked = colorMarked (x .mark) in
+      let m = coverageMarked (x .mark) in
+      let known = cond (full .layered) marked (full .sure || m) in
+      let new = cond (full .layered) (overColors (full .layer) (colorsIf marked (colorsAt (f .colors) p))) (full .own) in
+      let ek′ = ek ∙ (λ i. cond (full .layered) marked (full .sure || em i)) in
+      let ea′ = ea ∙ (λ i. markOf (ek′ i) (em i || full .settles)) ∙ (λ i. markOf known (full-covered m (full .fills) (full .settles) (x .coverage) i)) in
+      let es′ = es ∙ (λ i. cond (em i) (full .fills) (full .settles)) in
+      let colors =
+      full-colors known (f .colors) p new (omega (arith, place, long .colors))
+      ∙ (λ i.
+      let c = looked (full .layered) marked (full .sure || m) (overColors (full .layer)) (full .own) (colorsAt (f .colors) p) i in
+      set (set (set (f .colors) (3 * p) (c .red)) (3 * p + 1) (c .green)) (3 * p + 2) (c .blue)) in
+      let coverages = full-coverage (full .fills) (full .settles) (f .coverages) p (omega (arith, place, long .coverages)) m in
+      eg
+      ∙ (λ i. storedAt f p (ek′ i) (en i) (es′ i) 7 (ea′ i))
+      ∙ (λ i. frameOf (colors i) (coverages i) (set (f .marks) p (markOf known (not (unknown (fullCoverage (full .fills) (full .settles) (coverageAt x)))))))
+
+-- ---- that is a step
+none : ones 0 ≡ 0
+unfolding ones
+none = refl
+
+eight : 8 ≡ countOf 255
+eight =
+    omega (
+      arith,
+      ones-step 255,
+      ones-step 127,
+      ones-step 63,
+      ones-step 31,
+      ones-step 15,
+      ones-step 7,
+      ones-step 3,
+      ones-step 1,
+      none,
+    )
+
+module _ {mode : RenderMode} {k : Combiner} {color : Rgba} {full : Full} (o : FullOf mode k color full) (e : Enough mode full) where
+  pub filled-drew :
+      {n p : ℕ} {f g : Frame} → Fit n f → g ≡ row.filledAt full f p → Drew mode k n (row.fullPixel color p) f g 1
+  unfolding stepFrame
+  filled-drew {n} {p} {f} {g} fit h =
+      let emit = emitOf p 255 color f1 in
+      let t : g ≡ stepFrame mode k f emit = h ∙ ap (putPixel f p) (full-step mode k (sourceOf emit) (pixelAt f p) (sym eight) o e (fit .sound p)) in
+      record {
+        ran = record { state = t; count = refl };
+        fit = subst (Fit n) (sym t) (fit-step mode k emit fit (omega (arith, eight)) (omega (arith, eight)));
+      }
+
+-- as many as the run is long
+pub run-length : (color : Rgba) (a b : ℕ) → length (from (row.fullPixel color) a b) ≡ b - a
+unfolding parts
+run-length color a b = go (b - a) a
+  where
+    go : (n i : ℕ) → length (parts (row.fullPixel color) n i) ≡ n
+    go zero i = refl
+    go (suc n) i = omega (arith, go n (i + 1))

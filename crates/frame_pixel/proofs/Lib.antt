@@ -1,0 +1,4 @@
+-- The proofs of crate `frame_pixel` that other crates cite.
+pub mod Alike
+pub mod Colorings
+pub mod Fulls

@@ -1,0 +1,74 @@
+// Pixels with all eight samples, of one colour that is worked out ahead. What rule F5 does to their coverage is asked of it once: it makes every known one 7
+// or leaves it, and an unknown one likewise.
+ghost use mathlib.Core.Path.{_≡_};
+ghost use mathlib.Core.Bool.{cond};
+ghost use Prim.Native.Nat.{_≤_};
+ghost use Rattle.blender.specs.Blend.{orZero};
+ghost use Rattle.blender.specs.Layer.{layeredOf, layerOf, opaqueOf};
+ghost use Rattle.frame_pixel.specs.Rules.{ruleF5};
+ghost use Rattle.frame_pixel.specs.Coloring.{ownColors};
+ghost use Rattle.frame_pixel.specs.Full.{isSeven, FullOf};
+use crate::Colors;
+use crate::next_coverage;
+use blender::Coverage;
+use blender::layer::Layer;
+use combiner::Combiner;
+use state::RenderMode;
+use state::Rgba;
+
+// The coverage of eight samples.
+pub const SEVEN: u8 = 7;
+
+const ALL: u8 = 8;
+
+// Whether the colour is a layer over the memory's, its bytes if not, whether these are known over an unknown coverage too, and whether a known and an unknown
+// coverage become 7. As single fields and no enum: a loop over pixels asks them once.
+pub struct Full {
+    pub layered: bool,
+    pub own: Colors,
+    pub layer: Layer,
+    pub sure: bool,
+    pub fills: bool,
+    pub settles: bool,
+}
+
+fn is_seven(coverage: Coverage) -> bool
+    ensures { λ r. ⌜ r ≡ isSeven coverage ⌝ }
+{
+    match coverage {
+        Coverage::Unknown => false,
+        Coverage::Known(c) => c == SEVEN,
+    }
+}
+
+// What the full pixels of a colour need.
+pub fn full_of(mode: RenderMode, combiner: Combiner, color: Rgba) -> Full
+    ensures { λ r. ⌜ FullOf mode combiner color r ⌝ }
+{
+    let layered = blender::layer::layered(mode, color.a);
+    let own = crate::own_colors(mode, combiner, color);
+    let layer = blender::layer::layer_of(mode, combiner, color);
+    let sure = blender::opaque(mode, color.a);
+    let known = next_coverage(mode, ALL, Coverage::Known(0));
+    let fills = is_seven(known);
+    let unknown = next_coverage(mode, ALL, Coverage::Unknown);
+    let settles = is_seven(unknown);
+    Full {
+        layered,
+        own,
+        layer,
+        sure,
+        fills,
+        settles,
+    }
+}
+
+// Whether 7 is stored, of a coverage that is known or not.
+pub fn stores_seven(covered: bool, fills: bool, settles: bool) -> bool
+    ensures { λ r. ⌜ r ≡ cond covered fills settles ⌝ }
+{
+    if covered {
+        return fills;
+    }
+    settles
+}

@@ -1,3 +1,0 @@
--- The definitions that the contracts of `mixer` cite.
-pub mod Shaded
-pub mod Mixer

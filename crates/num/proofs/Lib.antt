@@ -1,9 +1,0 @@
--- What several proofs of `num` share.
-pub mod Values
-pub mod Scaled
-pub mod Cut
-pub mod Fourfold
-pub mod Placed
-pub mod Clipped
-pub mod Bytes
-pub mod Index

@@ -1,0 +1,2 @@
+-- The definitions that the contracts of `num_bits` cite.
+pub mod Field

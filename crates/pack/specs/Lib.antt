@@ -1,5 +1,0 @@
--- The definitions that the contracts of `pack` cite.
-pub mod Color
-pub mod Dither
-pub mod Depth
-pub mod Writer

@@ -1,5 +1,0 @@
--- The definitions that the contracts of `paint` cite.
-pub mod Steps
-pub mod Pixel
-pub mod Paint
-pub mod Row

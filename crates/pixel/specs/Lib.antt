@@ -1,3 +1,0 @@
--- The definitions that the contracts of `pixel` cite.
-pub mod Refusal
-pub mod Calls

@@ -1,3 +1,0 @@
--- What the proofs of `probe` share, and the law that its pixels are the emitted list.
-pub mod Flat
-pub mod Emitted

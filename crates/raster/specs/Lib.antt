@@ -1,6 +1,0 @@
--- The definitions that the contracts of `raster` cite.
-pub mod Parts
-pub mod Ran
-pub mod Area
-pub mod Admitted
-pub mod Emitted

@@ -1,0 +1,2 @@
+-- The definitions that the contracts of `raster_admitted` cite.
+pub mod Check

@@ -1,0 +1,8 @@
+-- What the proofs of `raster_edges` share, and the laws that callers cite.
+pub mod Size
+pub mod Tame
+pub mod Ones
+pub mod Outside
+pub mod Fits
+pub mod Inside
+pub mod Lines

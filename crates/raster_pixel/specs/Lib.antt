@@ -1,0 +1,6 @@
+-- The definitions that the contracts of `raster_pixel` cite.
+pub mod Parts
+pub mod Ran
+pub mod Area
+pub mod Admitted
+pub mod Emitted

@@ -1,0 +1,5 @@
+-- What the proofs of `raster_rectangle` share.
+pub mod Exact
+pub mod First
+pub mod Outlined
+pub mod Samples

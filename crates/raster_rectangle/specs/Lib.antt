@@ -1,0 +1,4 @@
+-- The definitions that the contracts of `raster_rectangle` cite.
+pub mod Rectangle
+pub mod Axes
+pub mod Outline

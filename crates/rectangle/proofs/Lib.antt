@@ -1,5 +1,0 @@
--- What the proofs of `rectangle` share.
-pub mod Exact
-pub mod First
-pub mod Outlined
-pub mod Samples

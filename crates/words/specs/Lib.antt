@@ -1,2 +1,0 @@
--- The definitions that the contracts of `words` cite.
-pub mod Read

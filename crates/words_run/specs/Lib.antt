@@ -1,0 +1,3 @@
+-- The definitions that the contracts of `words_run` cite.
+pub mod Run
+pub mod Entries

@@ -1,0 +1,3 @@
+-- The definitions that the contracts of `writeback_pixel` cite.
+pub mod Refusal
+pub mod Calls
