@@ -28,7 +28,7 @@ pub fn layered(mode: RenderMode, alpha: f32) -> bool
     mode.force_blend & (mux.p != 1) & (mux.m == 1) & (mux.a != 2) & (mux.b != 1) & !rejected
 }
 
-// Whether P is stored where the samples overflow, and the shade has no part in what is stored elsewhere.
+// Whether P is stored as it is where the samples of pixel and memory are more than 8, and the shade's alpha enters nowhere.
 pub fn steady(mode: RenderMode) -> bool
     ensures { λ r. ⌜ r ≡ steadyOf mode ⌝ }
 {

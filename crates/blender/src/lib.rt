@@ -11,7 +11,7 @@ ghost use Rattle.blender.specs.Layer.{opaqueOf, ownOf};
 ghost use Rattle.blender.specs.Blend.{sourceOf, factorA, factorB, divisorOf, mixedOf, bytesOf, blendOf, orZero};
 ghost use Rattle.blender.specs.Joined.{isKnown, orZeros, joined};
 
-pub mod layer; // pixels of one colour
+pub mod layer; // pixels whose blend is a sum with the memory's colour, or stored as they are where the samples overflow
 
 // A pixel's coverage in memory, 0 to 7 for 1 to 8 samples, or that it is not known.
 pub enum Coverage {
@@ -32,7 +32,7 @@ pub enum Memory {
     Known(Rgba),
 }
 
-// What is stored of a pixel: red, green, blue and alpha, or that it cannot be told.
+// What is stored of a pixel: red, green, blue and alpha, or a fallback where `color_known` says no.
 pub enum Joined {
     Fallback,
     Stored(u8, u8, u8, u8),
@@ -218,7 +218,7 @@ pub fn color_known(
     }
 }
 
-// The colour itself, channel by channel: which of several colours it is, is then told by jumps, and no pixel waits for a copy in memory.
+// The colour itself, channel by channel: the compiler then chooses one of several by a branch, and no pixel waits for a copy in memory.
 fn copy(x: Rgba) -> Rgba
     ensures { λ r. ⌜ r ≡ x ⌝ }
 {

@@ -10,7 +10,7 @@ use Rattle.raster_pixel.specs.declared.Geometry.{Geometry}
 use Rattle.raster_pixel.specs.declared.Geometry.the-variants.{Nothing, Triangles, Rectangle}
 use Rattle.c_draw.specs.declared.GeometryParts.{GeometryParts}
 use Rattle.c_draw.specs.declared.FragmentAnswer.{FragmentAnswer}
-use Rattle.c_emitted.specs.Probe.{pixelProbe}
+use Rattle.c_emitted.specs.Emitted.{emittedPixel}
 use Rattle.c_types.specs.declared.Mode.{Mode}
 use Rattle.c_types.specs.declared.Parts.{Parts}
 use Rattle.c_types.specs.Convert.{numbered, combinerFrom}
@@ -24,9 +24,9 @@ unfoldable pub geometryFrom : GeometryParts → Geometry
 geometryFrom p = numbered (geometries p) Nothing (p .kind)
 
 -- what pixel (x, y) of triangle i, or of the rectangle, emits
-abbrev pub probeFrom : Mode → Parts → Bool → GeometryParts → List Float → List ℕ → List ℕ → ℕ → ℕ → ℕ → Fragment
-probeFrom mode combiner cull geometry vs ps is i y x =
-    pixelProbe (mode .antialias) (combinerFrom combiner) cull (geometryFrom geometry) vs ps is i y x
+abbrev pub emittedFrom : Mode → Parts → Bool → GeometryParts → List Float → List ℕ → List ℕ → ℕ → ℕ → ℕ → Fragment
+emittedFrom mode combiner cull geometry vs ps is i y x =
+    emittedPixel (mode .antialias) (combinerFrom combiner) cull (geometryFrom geometry) vs ps is i y x
 
 -- where nothing is emitted all is 0; a mask that is emitted never is
 abbrev pub fragmentAnswer : Fragment → FragmentAnswer

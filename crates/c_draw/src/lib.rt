@@ -5,7 +5,7 @@ ghost use mathlib.Core.Bool.{_&&_};
 ghost use Rattle.raster_vertex.specs.Range.{inRangeX, inRangeY};
 ghost use Rattle.raster_pixel.specs.Admitted.{admittedOf};
 ghost use Rattle.c_types.specs.Convert.{combinerFrom};
-ghost use Rattle.c_draw.specs.Draws.{geometryFrom, probeFrom, fragmentAnswer};
+ghost use Rattle.c_draw.specs.Draws.{geometryFrom, emittedFrom, fragmentAnswer};
 use c_answers::no_color;
 use c_types::Mode;
 use c_types::Parts;
@@ -103,7 +103,7 @@ pub fn pixel(
     y: u32,
     x: u32,
 ) -> FragmentAnswer
-    ensures { λ r. ⌜ r ≡ fragmentAnswer (probeFrom mode combiner cull geometry (now (vertices .entry)) (now (present .entry)) (now (indices .entry)) i y x) ⌝ }
+    ensures { λ r. ⌜ r ≡ fragmentAnswer (emittedFrom mode combiner cull geometry (now (vertices .entry)) (now (present .entry)) (now (indices .entry)) i y x) ⌝ }
 {
     let k = combiner_of(combiner);
     let g = geometry_of(geometry);

@@ -20,7 +20,7 @@ use Rattle.raster_pixel.specs.declared.Fragment.the-variants.{Empty}
 use Rattle.raster_admitted.specs.Check.{any}
 use Rattle.raster_pixel.specs.Emitted.{Emit, emits, inside, cornerOf, triangleFragment, triangleEmits}
 use Rattle.raster_pixel.proofs.Parts.{from-empty}
-use Rattle.c_emitted.specs.Probe.{triangleProbe}
+use Rattle.c_emitted.specs.Emitted.{emittedTriangle}
 
 -- nothing on every pixel is nothing
 inside-empty : (s : Scissor) (w h : ℕ) → inside {A = Emit} s w h (λ (y x : ℕ). []) ≡ []
@@ -35,8 +35,8 @@ inside-cond s w h false pixel = refl
 -- A triangle whose vertices are in range emits what its pixels do, row by row and from left to right.
 pub triangle-emits : (m : RenderMode) (k : Combiner) (cull : Bool) (s : Scissor) (w h : ℕ) (a b c : Vertex)
     → any (λ (v : Vertex). not (inRange v)) a b c ≡ false
-    → triangleEmits m k cull s w h a b c ≡ inside s w h (λ (y x : ℕ). emits (triangleProbe (m .antialias) k cull a b c y x) (y * w + x))
-unfolding triangleEmits triangleProbe
+    → triangleEmits m k cull s w h a b c ≡ inside s w h (λ (y x : ℕ). emits (emittedTriangle (m .antialias) k cull a b c y x) (y * w + x))
+unfolding triangleEmits emittedTriangle
 triangle-emits m k cull s w h a b c e =
     let o = sorted (a ∷ b ∷ c ∷ []) in
     let corners = map cornerOf o in

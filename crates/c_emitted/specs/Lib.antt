@@ -1,2 +1,2 @@
 -- The definitions that the contracts of `c_emitted` cite.
-pub mod Probe
+pub mod Emitted

@@ -2,7 +2,7 @@
 // row, from left to right, sees the pixels that the draw emits, in its order.
 ghost use mathlib.Core.Path.{_≡_};
 ghost use Prim.Native.Nat.{_<_};
-ghost use Rattle.c_emitted.specs.Probe.{triangleProbe, indexedProbe, pixelProbe};
+ghost use Rattle.c_emitted.specs.Emitted.{emittedTriangle, emittedIndexed, emittedPixel};
 use combiner::Combiner;
 use raster_pixel::Fragment;
 use raster_pixel::Geometry;
@@ -25,7 +25,7 @@ fn triangle(
     x: u32,
 ) -> Fragment
     requires { ⌜ (x < 1024) × (y < 1024) ⌝ }
-    ensures { λ r. ⌜ r ≡ triangleProbe antialias combiner cull a b c y x ⌝ }
+    ensures { λ r. ⌜ r ≡ emittedTriangle antialias combiner cull a b c y x ⌝ }
 {
     if raster_admitted::out_of_range(a, b, c) {
         return Fragment::Empty;
@@ -56,7 +56,7 @@ fn indexed(
     x: u32,
 ) -> Fragment
     requires { ⌜ (x < 1024) × (y < 1024) ⌝ }
-    ensures { λ r. ⌜ r ≡ indexedProbe antialias combiner cull (now (vertices .entry)) (now (present .entry)) (now (indices .entry)) i y x ⌝ }
+    ensures { λ r. ⌜ r ≡ emittedIndexed antialias combiner cull (now (vertices .entry)) (now (present .entry)) (now (indices .entry)) i y x ⌝ }
 {
     let count = indices.len() / 3;
     if count <= i {
@@ -81,7 +81,7 @@ pub fn pixel(
     y: u32,
     x: u32,
 ) -> Fragment
-    ensures { λ r. ⌜ r ≡ pixelProbe antialias combiner cull geometry (now (vertices .entry)) (now (present .entry)) (now (indices .entry)) i y x ⌝ }
+    ensures { λ r. ⌜ r ≡ emittedPixel antialias combiner cull geometry (now (vertices .entry)) (now (present .entry)) (now (indices .entry)) i y x ⌝ }
 {
     if LIMIT <= x {
         return Fragment::Empty;

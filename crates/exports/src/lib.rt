@@ -13,7 +13,7 @@ ghost use Rattle.raster_vertex.specs.Range.{inRangeX, inRangeY};
 ghost use Rattle.raster_pixel.specs.Admitted.{admittedOf};
 ghost use Rattle.c_types.specs.Convert.{modeOf, combinerFrom, selectorsOf, coverageOf, literalOf, encodingOf, writerOf, bytesFrom};
 ghost use Rattle.c_answers.specs.Answers.{same, bit, fourBytes, twoBytes, answerOf, strictAnswer, colorAnswer, combinerAnswer};
-ghost use Rattle.c_draw.specs.Draws.{geometryFrom, probeFrom, fragmentAnswer};
+ghost use Rattle.c_draw.specs.Draws.{geometryFrom, emittedFrom, fragmentAnswer};
 use c_answers::Answer;
 use c_answers::ColorAnswer;
 use c_answers::CombinerAnswer;
@@ -290,7 +290,7 @@ pub extern "C" fn wb_pixel(
     y: u32,
     x: u32,
 ) -> FragmentAnswer
-    ensures { λ r. ⌜ r ≡ fragmentAnswer (probeFrom mode combiner cull geometry (now (vertices .entry)) (now (present .entry)) (now (indices .entry)) i y x) ⌝ }
+    ensures { λ r. ⌜ r ≡ fragmentAnswer (emittedFrom mode combiner cull geometry (now (vertices .entry)) (now (present .entry)) (now (indices .entry)) i y x) ⌝ }
 {
     c_draw::pixel(
         mode,

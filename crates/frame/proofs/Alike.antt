@@ -109,12 +109,12 @@ module _ (f g : Frame) (p : ℕ) (x y : Pixel) (h : Alike f g) (c : AlikePixel x
         colors = simp length-set (h .colors);
         coverages = simp length-set (h .coverages);
         marks = marks-put;
-        cells = λ (q : ℕ). at q (ℕ-discrete q p);
+        pixels = λ (q : ℕ). at q (ℕ-discrete q p);
       }
     where
       at : (q : ℕ) → Dec (q ≡ p) → AlikePixel (pixelAt (putPixel f p x) q) (pixelAt (putPixel g p y) q)
       at q (yes e) = subst (λ (j : ℕ). AlikePixel (pixelAt (putPixel f p x) j) (pixelAt (putPixel g p y) j)) (sym e) here
-      at q (no n) = rw (other f p q x n, other g p q y n) (h .cells q)
+      at q (no n) = rw (other f p q x n, other g p q y n) (h .pixels q)
 
 -- ---- numbers 1 to 3 look at lengths, at marks and at known coverages
 mark-same : (m c d : ℕ) → (coverageMarked m ≡ true → c ≡ d) → markOk m c ≡ markOk m d
@@ -139,7 +139,7 @@ marks-same (c ∷ cs) (d ∷ ds) (m ∷ ms) e h =
 module _ (w h : ℕ) {f g : Frame} (a : Alike f g) where
   pub refusal-same : frameRefusal f w h ≡ frameRefusal g w h
   unfolding frameRefusal
-  refusal-same = rw (lengths, ← a .marks, marks-same (f .coverages) (g .coverages) (f .marks) (a .coverages) (λ (p : ℕ). a .cells p .coverage))
+  refusal-same = rw (lengths, ← a .marks, marks-same (f .coverages) (g .coverages) (f .marks) (a .coverages) (λ (p : ℕ). a .pixels p .coverage))
     where
       lengths : lengthsOk f (w * h) ≡ lengthsOk g (w * h)
       lengths = rw (a .colors, a .coverages, a .marks)

@@ -10,4 +10,4 @@ pub record Alike (f g : Frame) : Type 0 where
   pub colors : length (f .colors) ≡ length (g .colors)
   pub coverages : length (f .coverages) ≡ length (g .coverages)
   pub marks : f .marks ≡ g .marks
-  pub cells : (p : ℕ) → AlikePixel (pixelAt f p) (pixelAt g p)
+  pub pixels : (p : ℕ) → AlikePixel (pixelAt f p) (pixelAt g p)

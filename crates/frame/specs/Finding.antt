@@ -27,7 +27,7 @@ pub record Sees (ms : List ℕ) (seen : Seen) : Type 0 where
   pub unmarked : seen .unmarked ≡ every coverageUnmarked ms
   pub marked : seen .marked ≡ every coverageMarked ms
 
--- what is told of a part of the frame
+-- what is found of a part of the frame
 unfoldable pub Tells : List ℕ → List ℕ → Finding → Type 0
 Tells cs ms Good = true ≡ marksOk cs ms
 Tells cs ms Bad = false ≡ marksOk cs ms

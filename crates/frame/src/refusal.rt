@@ -21,7 +21,7 @@ const COVERAGE: u8 = 7;
 // How many pixels are looked at together where some coverages are marked and some are not.
 const PART: usize = 32;
 
-// What marks and, where every one is marked, coverages tell of number 3. Mixed: no mark is too high.
+// What marks and, where every one is marked, coverages tell of number 3. Mixed: no mark is too high, and some coverages are marked and some not.
 pub enum Finding {
     Good,
     Bad,

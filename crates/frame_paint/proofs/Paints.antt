@@ -14,7 +14,6 @@ use Rattle.combiner_resolved.specs.Resolved.{colorValue, resolvedOf}
 use Rattle.combiner_resolved.specs.Shaded.{shadeUsed}
 use Rattle.combiner_resolved.proofs.Flat.{flat-color}
 use Rattle.blender.specs.declared.Mux.{Mux}
-use Rattle.blender.specs.declared.Source.{Source}
 use Rattle.blender.specs.Mux.{muxOf}
 use Rattle.blender.specs.Blend.{sourceOf}
 use Rattle.blender.specs.Layer.{ownOf, steadyOf, opaqueOf}
@@ -23,11 +22,11 @@ use Rattle.blender.proofs.Layers.{layered, steady}
 use Rattle.frame_pixel.specs.declared.Pixel.{Pixel}
 use Rattle.frame_pixel.specs.declared.Colors.{Colors}
 use Rattle.frame_pixel.specs.declared.full.Full.{Full}
-use Rattle.frame_pixel.specs.Rules.{ruleF1, ruleF2, knownAfter, colorsAfter, coverageAfter, assembled, pixelStep}
+use Rattle.frame_pixel.specs.Rules.{pixelStep}
 use Rattle.frame_pixel.specs.Coloring.{colorsOf, ownColors}
 use Rattle.frame_pixel.specs.Full.{FullOf}
 use Rattle.frame_pixel.proofs.Alike.{never}
-use Rattle.frame_pixel.proofs.Colorings.{opaque-colors, unshaded-step}
+use Rattle.frame_pixel.proofs.Colorings.{opaque-step, unshaded-step}
 use Rattle.raster_edges.specs.Sample.{countOf}
 use Rattle.raster_pixel.specs.Emitted.{Emit}
 use Rattle.frame.specs.Frame.{Frame, pixelAt, putPixel}
@@ -89,18 +88,6 @@ own-bytes paint i color o =
     chosen false = sym (i .own)
 
 -- ---- the shade's alpha
--- an opaque pixel stores its own colour
-module _ (mode : RenderMode) (k : Combiner) (color : Rgba) (n : ℕ) (x : Pixel) where
-  abbrev source : Float → Source
-  source s = record { color = color; «shade_alpha» = s; count = n }
-
-  opaque-step : opaqueOf mode (color .a) ≡ true → (s t : Float) → pixelStep mode k (source s) x ≡ pixelStep mode k (source t) x
-  unfolding pixelStep knownAfter coverageAfter ruleF1 ruleF2
-  opaque-step h s t =
-      let o = opaque mode (color .a) h in
-      let same = opaque-colors mode k (source s) x o ∙ sym (opaque-colors mode k (source t) x o) in
-      λ i. assembled (knownAfter mode (source s) x) (same i) (coverageAfter mode (source s) x) (x .coverage)
-
 -- what is stored of a pixel of the paint's own colour does not turn on it, where what full pixels need is enough
 module _ (paint : Paint) (e : Prepared paint) (even : paint .even ≡ true) where
   any-step :
@@ -116,7 +103,7 @@ module _ (paint : Paint) (e : Prepared paint) (even : paint .even ≡ true) wher
       go true el d ed o eo h =
           unshaded-step (paint .mode) (paint .combiner) (paint .color) n x s t (layered (paint .mode) (paint .color .a) (sym (e .full .layered) ∙ el) .shade)
       go false el true ed o eo h = unshaded-step (paint .mode) (paint .combiner) (paint .color) n x s t (steady (paint .mode) ed .shade)
-      go false el false ed true eo h = opaque-step (paint .mode) (paint .combiner) (paint .color) n x (sym (e .full .sure) ∙ eo) s t
+      go false el false ed true eo h = opaque-step (paint .mode) (paint .combiner) (paint .color) n x s t (opaque (paint .mode) (paint .color .a) (sym (e .full .sure) ∙ eo))
       go false el false ed false eo h = never h
 
   pub any-shade :

@@ -14,7 +14,7 @@ use Rattle.frame_pixel.specs.Coloring.{colorsOf, ownColors}
 use Rattle.frame_pixel.specs.Full.{FullOf}
 use Rattle.frame_paint.specs.declared.prepare.Paint.{Paint}
 
--- its parts say no more than what holds
+-- each part is what its name says
 pub record Prepared (paint : Paint) : Type 0 where
   pub resolved : paint .resolved ≡ resolvedOf (paint .combiner)
   pub color : colorOf (paint .combiner) fullShade ≡ colorValue (paint .color)

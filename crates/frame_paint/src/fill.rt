@@ -14,9 +14,9 @@ ghost use Rattle.frame_paint.specs.Paint.{Prepared};
 ghost use Rattle.frame_paint.specs.Row.{filledAt, fullAt};
 use crate::prepare::Paint;
 use frame_pixel::Colors;
+use frame_pixel::full::FULL_COVERAGE;
 use frame_pixel::full::Full;
-use frame_pixel::full::SEVEN;
-use frame_pixel::full::stores_seven;
+use frame_pixel::full::stores_full;
 
 // Whether a full pixel's colour is then known.
 fn full_known(full: Full, mark: u8, covered: bool) -> bool
@@ -51,7 +51,7 @@ fn fill_pixel(colors: &mut [u8], coverages: &mut [u8], marks: &mut [u8], full: F
     let covered = frame_pixel::coverage_marked(mark);
     let known = full_known(full, mark, covered);
     let new = full_colors(colors, marks, full, pixel);
-    let fills = stores_seven(covered, full.fills, full.settles);
+    let covers = stores_full(covered, full.fills, full.settles);
     let after = frame_pixel::mark_of(known, covered | full.settles);
     frame::store(
         colors,
@@ -60,8 +60,8 @@ fn fill_pixel(colors: &mut [u8], coverages: &mut [u8], marks: &mut [u8], full: F
         pixel,
         known,
         new,
-        fills,
-        SEVEN,
+        covers,
+        FULL_COVERAGE,
         after,
     );
 }

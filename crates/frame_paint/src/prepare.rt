@@ -28,7 +28,7 @@ pub struct Paint {
     pub flat: bool,
 }
 
-// The bytes of an opaque pixel's colour: its own, or the same for every pixel.
+// The bytes of an opaque pixel's colour: of this one where P is the pixel's colour, else those that all pixels have.
 fn bytes_of(plain: bool, own: Colors, color: Rgba) -> Colors
     ensures { λ r. ⌜ r ≡ cond plain (colorsOf color) own ⌝ }
 {

@@ -37,6 +37,11 @@ and-true : (b : Bool) → (b && true) ≡ b
 and-true true = refl
 and-true false = refl
 
+-- colours that are stored where they are known
+pub where-known : (known : Bool) (old : Colors) {told new : Colors} → (known ≡ true → told ≡ new) → cond known told old ≡ cond known new old
+where-known true old h = h refl
+where-known false old h = refl
+
 -- ---- an opaque pixel
 module _ (mode : RenderMode) (k : Combiner) (s : Source) (x : Pixel) (o : Opaque mode (s .color .a)) where
   pub opaque-yes : knownAfter mode s x ≡ true
@@ -82,16 +87,19 @@ module _ (mode : RenderMode) (k : Combiner) (s : Source) (x : Pixel) (o : Layere
   pub layered-colors : colorsAfter mode k s x ≡ cond (colorMarked (x .mark)) (overColors (layerOf mode k (s .color)) (ruleF4 x)) (ruleF4 x)
   unfolding colorsAfter
   layered-colors =
-      (λ i. cond (layered-known i) (ruleF3 mode k s (coverageAt x) (memoryOf (colorMarked (x .mark)) x)) (ruleF4 x)) ∙ go (colorMarked (x .mark)) (layer-stored (colorMarked (x .mark)))
-    where
-      go : (b : Bool) {told new : Colors} → (b ≡ true → told ≡ new) → cond b told (ruleF4 x) ≡ cond b new (ruleF4 x)
-      go true h = h refl
-      go false h = refl
+      (λ i. cond (layered-known i) (ruleF3 mode k s (coverageAt x) (memoryOf (colorMarked (x .mark)) x)) (ruleF4 x))
+      ∙ where-known (colorMarked (x .mark)) (ruleF4 x) (layer-stored (colorMarked (x .mark)))
 
--- ---- a pixel whose A is not the shade's alpha does not turn on it
+-- ---- the shade's alpha has no part in an opaque pixel, nor in one whose A is not that alpha
 module _ (mode : RenderMode) (k : Combiner) (color : Rgba) (n : ℕ) (x : Pixel) where
   abbrev shaded : Float → Source
   shaded s = record { color = color; «shade_alpha» = s; count = n }
+
+  pub opaque-step : (s t : Float) → Opaque mode (color .a) → pixelStep mode k (shaded s) x ≡ pixelStep mode k (shaded t) x
+  unfolding pixelStep knownAfter coverageAfter ruleF1 ruleF2
+  opaque-step s t o =
+      let same = opaque-colors mode k (shaded s) x o ∙ sym (opaque-colors mode k (shaded t) x o) in
+      λ i. assembled (knownAfter mode (shaded s) x) (same i) (coverageAfter mode (shaded s) x) (x .coverage)
 
   pub unshaded-step : (s t : Float) → eqb (muxOf (mode .«blender_mux») .a) 2 ≡ false → pixelStep mode k (shaded s) x ≡ pixelStep mode k (shaded t) x
   unfolding pixelStep knownAfter colorsAfter coverageAfter ruleF1 ruleF2 ruleF3

@@ -23,18 +23,18 @@ use Rattle.frame_pixel.specs.declared.full.Full.{Full}
 use Rattle.frame_pixel.specs.Marks.{colorMarked, coverageMarked}
 use Rattle.frame_pixel.specs.Rules.{ruleF1, ruleF2, memoryOf, ruleF3, ruleF4, freshCoverage, ruleF5, coverageAt, knownAfter, colorsAfter, coverageAfter, assembled, pixelStep}
 use Rattle.frame_pixel.specs.Coloring.{ownColors, overColors}
-use Rattle.frame_pixel.specs.Full.{isSeven, FullOf, Enough, fullKnown, fullColors, fullCoverage, fullWith, fullStep}
+use Rattle.frame_pixel.specs.Full.{isFull, FullOf, Enough, fullKnown, fullColors, fullCoverage, fullWith, fullStep}
 use Rattle.frame_pixel.proofs.Alike.{never}
-use Rattle.frame_pixel.proofs.Colorings.{opaque-yes, opaque-colors, layered-known, layered-colors}
+use Rattle.frame_pixel.proofs.Colorings.{where-known, opaque-yes, opaque-colors, layered-known, layered-colors}
 
 -- ---- F5 with all eight samples, by what it makes of coverage 0 and of an unknown one
 
 -- what it does to a known coverage, and whether it makes an unknown one 7
-abbrev sevenOf : RenderMode → Bool
-sevenOf mode = eqb (mode .«cvg_dst») 0 || eqb (mode .«cvg_dst») 2
+abbrev fillsOf : RenderMode → Bool
+fillsOf mode = eqb (mode .«cvg_dst») 0 || eqb (mode .«cvg_dst») 2
 
-abbrev setsOf : RenderMode → Bool
-setsOf mode = eqb (mode .«cvg_dst») 2 || (eqb (mode .«cvg_dst») 0 && not (mode .«force_blend») && not (mode .antialias))
+abbrev settlesOf : RenderMode → Bool
+settlesOf mode = eqb (mode .«cvg_dst») 2 || (eqb (mode .«cvg_dst») 0 && not (mode .«force_blend») && not (mode .antialias))
 
 picked :
     (zero one two fills : Bool) (c d : ℕ) → d ≡ 7 → (zero || two) ≡ fills → (zero ≡ true → two ≡ false) → (one ≡ true → (zero || two) ≡ false)
@@ -49,20 +49,20 @@ picked false false false fills c d e h p q = λ i. cond (h i) 7 c
 apart : (n a b : ℕ) → (a ≡ b → ⊥) → eqb n a ≡ true → eqb n b ≡ false
 apart n a b d h = ne-eqb n b (λ e. d (sym (eqb-true n a h) ∙ e))
 
-full-known : (mode : RenderMode) (c : ℕ) → c ≤ 7 → destinationOf mode 8 c ≡ cond (sevenOf mode) 7 c
+full-known : (mode : RenderMode) (c : ℕ) → c ≤ 7 → destinationOf mode 8 c ≡ cond (fillsOf mode) 7 c
 unfolding destinationOf clampOf
 full-known mode c h =
     let n = mode .«cvg_dst» in
     let wrap : (8 + c) % 8 ≡ c = omega arith in
     (λ i. cond (eqb n 0) (clampOf (blends mode 8 (Known c)) 8 c) (cond (eqb n 1) (wrap i) (cond (eqb n 2) 7 c)))
-    ∙ picked (eqb n 0) (eqb n 1) (eqb n 2) (sevenOf mode) c _ (clamped (blends mode 8 (Known c))) refl (apart n 0 2 (λ e. omega arith))
+    ∙ picked (eqb n 0) (eqb n 1) (eqb n 2) (fillsOf mode) c _ (clamped (blends mode 8 (Known c))) refl (apart n 0 2 (λ e. omega arith))
     (λ e. λ i. apart n 1 0 (λ e. omega arith) e i || apart n 1 2 (λ e. omega arith) e i)
   where
     clamped : (b : Bool) → cond b (min (8 + c) 7) (8 - 1) ≡ 7
     clamped true = omega arith
     clamped false = refl
 
-full-fresh : (mode : RenderMode) → freshCoverage mode 8 ≡ cond (setsOf mode) (Known 7) Unknown
+full-fresh : (mode : RenderMode) → freshCoverage mode 8 ≡ cond (settlesOf mode) (Known 7) Unknown
 unfolding freshCoverage
 full-fresh mode = go (eqb (mode .«cvg_dst») 2) (eqb (mode .«cvg_dst») 0 && not (mode .«force_blend») && not (mode .antialias))
   where
@@ -70,28 +70,28 @@ full-fresh mode = go (eqb (mode .«cvg_dst») 2) (eqb (mode .«cvg_dst») 0 && n
     go true b = refl
     go false b = refl
 
-seven-asked : (mode : RenderMode) → isSeven (ruleF5 mode 8 (Known 0)) ≡ sevenOf mode
+known-asked : (mode : RenderMode) → isFull (ruleF5 mode 8 (Known 0)) ≡ fillsOf mode
 unfolding ruleF5
-seven-asked mode = (λ i. eqb (full-known mode 0 (omega arith) i) 7) ∙ go (sevenOf mode)
+known-asked mode = (λ i. eqb (full-known mode 0 (omega arith) i) 7) ∙ go (fillsOf mode)
   where
     go : (b : Bool) → eqb (cond b 7 0) 7 ≡ b
     go true = refl
     go false = refl
 
-sets-asked : (mode : RenderMode) → isSeven (ruleF5 mode 8 Unknown) ≡ setsOf mode
+unknown-asked : (mode : RenderMode) → isFull (ruleF5 mode 8 Unknown) ≡ settlesOf mode
 unfolding ruleF5
-sets-asked mode = ap isSeven (full-fresh mode) ∙ go (setsOf mode)
+unknown-asked mode = ap isFull (full-fresh mode) ∙ go (settlesOf mode)
   where
-    go : (b : Bool) → isSeven (cond b (Known 7) Unknown) ≡ b
+    go : (b : Bool) → isFull (cond b (Known 7) Unknown) ≡ b
     go true = refl
     go false = refl
 
 full-rule :
     (mode : RenderMode) (c : Coverage) → orZero c ≤ 7
-    → fullCoverage (isSeven (ruleF5 mode 8 (Known 0))) (isSeven (ruleF5 mode 8 Unknown)) c ≡ ruleF5 mode 8 c
+    → fullCoverage (isFull (ruleF5 mode 8 (Known 0))) (isFull (ruleF5 mode 8 Unknown)) c ≡ ruleF5 mode 8 c
 unfolding ruleF5
-full-rule mode Unknown h = (λ i. cond (sets-asked mode i) (Known 7) Unknown) ∙ sym (full-fresh mode)
-full-rule mode (Known c) h = (λ i. Known (cond (seven-asked mode i) 7 c)) ∙ ap Known (sym (full-known mode c h))
+full-rule mode Unknown h = (λ i. cond (unknown-asked mode i) (Known 7) Unknown) ∙ sym (full-fresh mode)
+full-rule mode (Known c) h = (λ i. Known (cond (known-asked mode i) 7 c)) ∙ ap Known (sym (full-known mode c h))
 
 -- ---- a pixel with all samples
 module _ (mode : RenderMode) (k : Combiner) (s : Source) (x : Pixel) (n : s .count ≡ 8) where
@@ -125,11 +125,7 @@ module _ (mode : RenderMode) (k : Combiner) (s : Source) (x : Pixel) (n : s .cou
     unfolding colorsAfter
     steady-colors =
         (λ i. cond (steady-yes i) (ruleF3 mode k s (coverageAt x) (memoryOf (colorMarked (x .mark)) x)) (ruleF4 x))
-        ∙ go (coverageMarked (x .mark)) (steady-stored (coverageMarked (x .mark)) (x .coverage) (memoryOf (colorMarked (x .mark)) x))
-      where
-        go : (b : Bool) {told new : Colors} → (b ≡ true → told ≡ new) → cond b told (ruleF4 x) ≡ cond b new (ruleF4 x)
-        go true h = h refl
-        go false h = refl
+        ∙ where-known (coverageMarked (x .mark)) (ruleF4 x) (steady-stored (coverageMarked (x .mark)) (x .coverage) (memoryOf (colorMarked (x .mark)) x))
 
   -- whether its colour is known, and its colours
   module _ {full : Full} (f : FullOf mode k (s .color) full) where

@@ -18,9 +18,9 @@ use Rattle.frame_pixel.specs.Rules.{ruleF4, ruleF5, coverageAt, assemble
 use Rattle.frame_pixel.specs.Coloring.{ownColors, overColors}
 
 -- F5 makes it 7
-abbrev pub isSeven : Coverage → Bool
-isSeven Unknown = false
-isSeven (Known c) = eqb c 7
+abbrev pub isFull : Coverage → Bool
+isFull Unknown = false
+isFull (Known c) = eqb c 7
 
 -- what is worked out ahead for the full pixels of a colour
 pub record FullOf (mode : RenderMode) (k : Combiner) (color : Rgba) (full : Full) : Type 0 where
@@ -29,8 +29,8 @@ pub record FullOf (mode : RenderMode) (k : Combiner) (color : Rgba) (full : Full
   pub layer : full .layer ≡ layerOf mode k color
   pub sure : full .sure ≡ opaqueOf mode (color .a)
   -- what F5 makes of a coverage that is known, and of one that is not
-  pub fills : full .fills ≡ isSeven (ruleF5 mode 8 (Known 0))
-  pub settles : full .settles ≡ isSeven (ruleF5 mode 8 Unknown)
+  pub fills : full .fills ≡ isFull (ruleF5 mode 8 (Known 0))
+  pub settles : full .settles ≡ isFull (ruleF5 mode 8 Unknown)
 
 -- that is enough for a full pixel: it is layered, or it is of its own colour wherever the coverage is known
 abbrev pub Enough : RenderMode → Full → Type 0

@@ -7,7 +7,7 @@ ghost use Rattle.blender.specs.Blend.{orZero};
 ghost use Rattle.blender.specs.Layer.{layeredOf, layerOf, opaqueOf};
 ghost use Rattle.frame_pixel.specs.Rules.{ruleF5};
 ghost use Rattle.frame_pixel.specs.Coloring.{ownColors};
-ghost use Rattle.frame_pixel.specs.Full.{isSeven, FullOf};
+ghost use Rattle.frame_pixel.specs.Full.{isFull, FullOf};
 use crate::Colors;
 use crate::next_coverage;
 use blender::Coverage;
@@ -17,27 +17,26 @@ use state::RenderMode;
 use state::Rgba;
 
 // The coverage of eight samples.
-pub const SEVEN: u8 = 7;
+pub const FULL_COVERAGE: u8 = 7;
 
 const ALL: u8 = 8;
 
-// Whether the colour is a layer over the memory's, its bytes if not, whether these are known over an unknown coverage too, and whether a known and an unknown
-// coverage become 7. As single fields and no enum: a loop over pixels asks them once.
+// What full pixels of a colour need. As single fields and no enum: a loop over pixels asks them once.
 pub struct Full {
-    pub layered: bool,
-    pub own: Colors,
-    pub layer: Layer,
-    pub sure: bool,
-    pub fills: bool,
-    pub settles: bool,
+    pub layered: bool, // the colour is a layer over the memory's
+    pub own: Colors, // its bytes if not
+    pub layer: Layer, // the layer if so
+    pub sure: bool, // its bytes are known over an unknown coverage too
+    pub fills: bool, // F5 makes a known coverage 7, and else leaves it
+    pub settles: bool, // F5 makes an unknown coverage 7, and else leaves it
 }
 
-fn is_seven(coverage: Coverage) -> bool
-    ensures { λ r. ⌜ r ≡ isSeven coverage ⌝ }
+fn is_full(coverage: Coverage) -> bool
+    ensures { λ r. ⌜ r ≡ isFull coverage ⌝ }
 {
     match coverage {
         Coverage::Unknown => false,
-        Coverage::Known(c) => c == SEVEN,
+        Coverage::Known(c) => c == FULL_COVERAGE,
     }
 }
 
@@ -50,9 +49,9 @@ pub fn full_of(mode: RenderMode, combiner: Combiner, color: Rgba) -> Full
     let layer = blender::layer::layer_of(mode, combiner, color);
     let sure = blender::opaque(mode, color.a);
     let known = next_coverage(mode, ALL, Coverage::Known(0));
-    let fills = is_seven(known);
+    let fills = is_full(known);
     let unknown = next_coverage(mode, ALL, Coverage::Unknown);
-    let settles = is_seven(unknown);
+    let settles = is_full(unknown);
     Full {
         layered,
         own,
@@ -64,7 +63,7 @@ pub fn full_of(mode: RenderMode, combiner: Combiner, color: Rgba) -> Full
 }
 
 // Whether 7 is stored, of a coverage that is known or not.
-pub fn stores_seven(covered: bool, fills: bool, settles: bool) -> bool
+pub fn stores_full(covered: bool, fills: bool, settles: bool) -> bool
     ensures { λ r. ⌜ r ≡ cond covered fills settles ⌝ }
 {
     if covered {

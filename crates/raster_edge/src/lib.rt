@@ -1,4 +1,4 @@
-// One edge of a triangle in whole numbers (the Rust's rasterize): its x on a quarter line, what lies between two edges there, and what bounds four lines.
+// One edge of a triangle or of a rectangle in whole numbers (the Rust's rasterize): its x on a quarter line, what lies between two edges there, and what bounds four lines.
 ghost use mathlib.Core.Path.{_≡_};
 ghost use Prim.Native.Nat.{_<_, _≤_};
 ghost use lib.IntN.{pos, natAbs};
@@ -17,7 +17,7 @@ pub struct Edge {
     pub base: i64,
 }
 
-// What a triangle spans on a quarter line, in eighths of a pixel.
+// What a shape spans on a quarter line, in eighths of a pixel.
 pub struct Span {
     pub l: i64,
     pub r: i64,

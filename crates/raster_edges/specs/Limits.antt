@@ -17,7 +17,7 @@ pub record AllNear (v : List Corner) : Type 0 where
   pub b-near : Near (cornerAt v 1)
   pub c-near : Near (cornerAt v 2)
 
--- every triangle that `setup` makes is tame (proofs/Tame.antt)
+-- every triangle that `setup` makes is tame (proofs/Tame.antt), and every outline of a rectangle (crate raster_rectangle)
 pub record TameTri (t : Tri) : Type 0 where
   pub major-tame : Tame (t .major)
   pub upper-tame : Tame (t .upper)

@@ -1,4 +1,4 @@
-// The whole-number part of the Rust's rasterize: from a triangle's corners, in quarters of a pixel, to the eight samples of a pixel.
+// The whole-number part of the Rust's rasterize: from a triangle's corners, in quarters of a pixel, to the eight samples of a pixel. A rectangle has such edges too.
 ghost use mathlib.Core.Path.{_≡_};
 ghost use Prim.Native.Nat.{_<_, _≤_};
 ghost use lib.IntN.{natAbs};
@@ -21,7 +21,7 @@ pub struct Corner {
     pub y: i64,
 }
 
-// A triangle's edges. It covers the quarter lines from top to end; the upper edge gives way to the lower at mid.
+// The edges of a triangle or of a rectangle. It covers the quarter lines from top to end; the upper edge gives way to the lower at mid.
 // The major edge is the left one if `rightward`.
 pub struct Tri {
     pub major: Edge,
@@ -251,7 +251,7 @@ pub fn bounds(e: Edges, x0: u32, x1: u32) -> Range
     raster_edge::within(first >> 3, (last >> 3) + 1, x0, x1)
 }
 
-// The part of the rows y0..y1 that the triangle's quarter lines can touch: no sample lies outside.
+// The part of the rows y0..y1 that the shape's quarter lines can touch: no sample lies outside.
 pub fn rows(t: Tri, y0: u32, y1: u32) -> Range
     requires { ⌜ y0 ≤ y1 ⌝ }
     ensures { λ r. ⌜ Kept (noRow t) y0 y1 r ⌝ }

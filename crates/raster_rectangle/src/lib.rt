@@ -49,7 +49,7 @@ fn placed(low: f32, high: f32, n: u32, a: u8, b: u8, c: u8, apart: u8) -> u8
 }
 
 // How many of an axis's quarters, 0 to 4095, lie before the side: none, if it is a NaN. The nearest one is no further off than half a quarter, so that it is
-// the last of them or the first that is none of them.
+// the last before the side, or the first that is not.
 fn quarters_before(side: f32) -> u32
     ensures { λ n. ⌜ Before side n ⌝ }
 {
@@ -57,7 +57,7 @@ fn quarters_before(side: f32) -> u32
     if n as f32 * 0.25 < side { n + 1 } else { n }
 }
 
-// The first of them that lies at the side or after it: none, which is 4096, if it is a NaN.
+// The first quarter that lies at the side or after it: none, which is 4096, if it is a NaN.
 fn first_quarter(side: f32) -> u32
     ensures { λ n. ⌜ From side n ⌝ }
 {

@@ -42,7 +42,7 @@ pub fn shading_of(flat: bool, v: [Vertex; 3]) -> Shading
     Shading::Smooth(a, b, c)
 }
 
-// The shades of row y; flat shading asks for none.
+// The shades of row y; flat shading asks for none, so zeros stand for them.
 fn shades_on(shading: Shading, y: u32) -> ShadeRow
     requires { ⌜ y < 1024 ⌝ }
     ensures { λ r. ⌜ r ≡ shadesOn shading y ⌝ }

@@ -18,7 +18,7 @@ module _ (mode : RenderMode) (k : Combiner) where
       let x = pixelAt f (e .pixel) in
       let y = pixelAt g (e .pixel) in
       put-alike f g (e .pixel) (pixelStep mode k (sourceOf e) x) (pixelStep mode k (sourceOf e) y) h
-      (pixel-alike mode k (sourceOf e) x y (h .cells (e .pixel)))
+      (pixel-alike mode k (sourceOf e) x y (h .pixels (e .pixel)))
 
   pub list-alike : (f g : Frame) (es : List Emit) → Alike f g → Alike (drawList mode k f es) (drawList mode k g es)
   list-alike f g [] h = h

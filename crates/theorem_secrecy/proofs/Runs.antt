@@ -74,7 +74,7 @@ module _ (w h : ℕ) {f g : Frame} (a : Alike f g) (r : ReadArgs) where
     where
       go : (k : ℕ) → readRefusal r w h f ≡ k → wordOr k (wordOf r w (pixelAt f (r .pixel))) ≡ wordOr k (wordOf r w (pixelAt g (r .pixel)))
       go zero e =
-          ap (wordOr 0) (word-same r w (pixelAt f (r .pixel)) (pixelAt g (r .pixel)) (a .cells (r .pixel)) (read-marked r w h f e))
+          ap (wordOr 0) (word-same r w (pixelAt f (r .pixel)) (pixelAt g (r .pixel)) (a .pixels (r .pixel)) (read-marked r w h f e))
       go (suc k) e = refl
 
 -- a run is its single reads, one after the other

@@ -1,6 +1,6 @@
 -- `c_draw::pixel` meets its contract: the combiner and the geometry from plain values. Assumes nothing.
 use mathlib.Core.Path.{ap, _∙_}
-use Rattle.c_emitted.specs.Probe.{pixelProbe}
+use Rattle.c_emitted.specs.Emitted.{emittedPixel}
 use Rattle.c_draw.specs.Draws.{fragmentAnswer}
 use borrow.Author.Needs.{needs}
 use Rattle.c_draw.proofs.pixel.Statement.{statement}
@@ -23,7 +23,7 @@ returns c =
     let a = c .before .before .before .before .before .before .before .args in
     c .emitted .ensures
     ∙ ap fragmentAnswer (c .before .pixel .ensures
-    ∙ (λ i. pixelProbe (a .mode .antialias) (c .before .before .before .combiner-of .ensures i) (a .cull) (c .before .before .geometry-of .ensures i) (a .vertices .now) (a .present .now) (a .indices .now) (a .i) (a .y) (a .x)))
+    ∙ (λ i. emittedPixel (a .mode .antialias) (c .before .before .before .combiner-of .ensures i) (a .cull) (c .before .before .geometry-of .ensures i) (a .vertices .now) (a .present .now) (a .indices .now) (a .i) (a .y) (a .x)))
 
 pub pixel-spec : {M : Type 1} → statement M
 pixel-spec =

@@ -10,7 +10,7 @@ use Rattle.raster_rectangle.specs.declared.Sides.{Sides}
 use Rattle.raster_pixel.specs.declared.Geometry.{Geometry}
 use Rattle.raster_pixel.specs.Emitted.{rectangleFragment}
 use Rattle.raster_admitted.proofs.Choices.{taken, passed, or-first, or-next}
-use Rattle.c_emitted.specs.Probe.{geometryProbe, pixelProbe}
+use Rattle.c_emitted.specs.Emitted.{emittedGeometry, emittedPixel}
 use borrow.Author.Needs.{needs}
 use Rattle.c_emitted.proofs.pixel.Statement.{statement}
 use Rattle.c_emitted.proofs.pixel.Tie as tie
@@ -26,19 +26,19 @@ small c = or-next (lt-leb _ _ (c .before .if1 .left)) (lt-leb _ _ (c .if2 .left)
 by-case : (c : tie.Else2) {g : Geometry}
     → (let s = c .before .before .before .before .before .args in
     s .geometry ≡ g
-    → geometryProbe (s .antialias) (s .combiner) (s .cull) (s .vertices .now) (s .present .now) (s .indices .now) (s .i) (s .y) (s .x) g
-    ≡ pixelProbe (s .antialias) (s .combiner) (s .cull) (s .geometry) (s .vertices .now) (s .present .now) (s .indices .now) (s .i) (s .y) (s .x))
-unfolding pixelProbe
+    → emittedGeometry (s .antialias) (s .combiner) (s .cull) (s .vertices .now) (s .present .now) (s .indices .now) (s .i) (s .y) (s .x) g
+    ≡ emittedPixel (s .antialias) (s .combiner) (s .cull) (s .geometry) (s .vertices .now) (s .present .now) (s .indices .now) (s .i) (s .y) (s .x))
+unfolding emittedPixel
 by-case c e =
     let s = c .before .before .before .before .before .args in
-    passed _ _ _ (small c) (sym (ap (geometryProbe (s .antialias) (s .combiner) (s .cull) (s .vertices .now) (s .present .now) (s .indices .now) (s .i) (s .y) (s .x)) e))
+    passed _ _ _ (small c) (sym (ap (emittedGeometry (s .antialias) (s .combiner) (s .cull) (s .vertices .now) (s .present .now) (s .indices .now) (s .i) (s .y) (s .x)) e))
 
 returns : tie.Need-returns
-unfolding pixelProbe
+unfolding emittedPixel
 returns c = taken _ _ _ (or-first _ (le-leb _ _ (c .if1 .taken)))
 
 returns-2 : tie.Need-returns-2
-unfolding pixelProbe
+unfolding emittedPixel
 returns-2 c = taken _ _ _ (or-next (lt-leb _ _ (c .before .if1 .left)) (le-leb _ _ (c .if2 .taken)))
 
 enum-told : tie.Need-enum-told

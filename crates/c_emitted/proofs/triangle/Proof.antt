@@ -19,7 +19,7 @@ use Rattle.raster_admitted.specs.Check.{any}
 use Rattle.raster_pixel.specs.Emitted.{cornerOf, triangleFragment}
 use Rattle.raster_pixel.proofs.Checked.{placed, sorted-near}
 use Rattle.raster_admitted.proofs.Choices.{taken, passed, or-first, or-next}
-use Rattle.c_emitted.specs.Probe.{triangleProbe}
+use Rattle.c_emitted.specs.Emitted.{emittedTriangle}
 use Rattle.c_emitted.proofs.Flat.{flat, not-flat}
 use borrow.Author.Needs.{needs}
 use Rattle.c_emitted.proofs.triangle.Statement.{statement}
@@ -51,14 +51,14 @@ out-of-range-requires : tie.Need-out-of-range-requires
 out-of-range-requires c κs = search needs
 
 returns : tie.Need-returns
-unfolding triangleProbe
+unfolding emittedTriangle
 returns c = taken _ _ _ (sym (c .before .out-of-range .ensures) ∙ c .if1 .taken)
 
 culled-requires : tie.Need-culled-requires
 culled-requires c κs = search needs
 
 returns-2 : tie.Need-returns-2
-unfolding triangleProbe
+unfolding emittedTriangle
 returns-2 c = passed _ _ _ (in-place (c .before .before)) (taken _ _ _ (or-first _ (sym (c .before .culled .ensures) ∙ c .if2 .taken)))
 
 sort-requires : tie.Need-sort-requires
@@ -71,7 +71,7 @@ quarter-area-requires : tie.Need-quarter-area-requires
 quarter-area-requires c κs = near c
 
 returns-3 : tie.Need-returns-3
-unfolding triangleProbe
+unfolding emittedTriangle
 returns-3 c =
     let q = c .before in
     passed _ _ _ (in-place (q .before .before .before .before .before))
@@ -87,7 +87,7 @@ triangle-pixel-requires : tie.Need-triangle-pixel-requires
 triangle-pixel-requires c κs = search needs
 
 returns-4 : tie.Need-returns-4
-unfolding triangleProbe
+unfolding emittedTriangle
 returns-4 c =
     let w = c .before .before .before in
     let q = w .before in

@@ -1,4 +1,4 @@
--- `marks_ok` meets its contract: what was told, or part by part.
+-- `marks_ok` meets its contract: what was found, or part by part.
 use mathlib.Core.Path.{subst}
 use Rattle.frame.specs.Finding.{Tells}
 use borrow.Author.Needs.{needs}

@@ -1,4 +1,4 @@
--- `part_ok` meets its contract: what was told, or pixel by pixel.
+-- `part_ok` meets its contract: what was found, or pixel by pixel.
 use mathlib.Core.Path.{subst}
 use Rattle.frame.specs.Finding.{Tells}
 use borrow.Author.Needs.{needs}

@@ -18,8 +18,8 @@ full-known-requires c κs = search needs
 full-colors-requires : tie.Need-full-colors-requires
 full-colors-requires c κs = search needs
 
-stores-seven-requires : tie.Need-stores-seven-requires
-stores-seven-requires c κs = search needs
+stores-full-requires : tie.Need-stores-full-requires
+stores-full-requires c κs = search needs
 
 mark-of-requires : tie.Need-mark-of-requires
 mark-of-requires c κs = search needs
@@ -44,7 +44,7 @@ returns c =
     let fk = fc .before .before .before in
     let s = fk .before .before .before .before .before .before in
     let a = s .args in
-    filled (a .full) (frameOf (now (a .colors)) (now (a .coverages)) (now (a .marks))) (a .pixel) (s .pre .0) (s .pre .1) (fk .before .coverage-marked .ensures) (fk .full-known .ensures) (fc .full-colors .ensures) (mk .before .before .stores-seven .ensures) (mk .mark-of .ensures) (st .store .ensures)
+    filled (a .full) (frameOf (now (a .colors)) (now (a .coverages)) (now (a .marks))) (a .pixel) (s .pre .0) (s .pre .1) (fk .before .coverage-marked .ensures) (fk .full-known .ensures) (fc .full-colors .ensures) (mk .before .before .stores-full .ensures) (mk .mark-of .ensures) (st .store .ensures)
 
 pub fill-pixel-spec : {M : Type 1} → statement M
 fill-pixel-spec =
@@ -54,7 +54,7 @@ fill-pixel-spec =
     coverage-marked-requires
     full-known-requires
     full-colors-requires
-    stores-seven-requires
+    stores-full-requires
     mark-of-requires
     store-requires
     same-length

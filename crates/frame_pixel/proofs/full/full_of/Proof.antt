@@ -2,7 +2,7 @@
 use mathlib.Core.Path.{ap, _∙_}
 use native.Mathlib.Omega.{arith}
 use borrow.Author.Needs.{needs}
-use Rattle.frame_pixel.specs.Full.{isSeven}
+use Rattle.frame_pixel.specs.Full.{isFull}
 use Rattle.frame_pixel.proofs.full.full_of.Statement.{statement}
 use Rattle.frame_pixel.proofs.full.full_of.Tie as tie
 
@@ -21,14 +21,14 @@ opaque-requires c κs = search needs
 next-coverage-requires : tie.Need-next-coverage-requires
 next-coverage-requires c κs = search needs
 
-is-seven-requires : tie.Need-is-seven-requires
-is-seven-requires c κs = search needs
+is-full-requires : tie.Need-is-full-requires
+is-full-requires c κs = search needs
 
 next-coverage-requires-2 : tie.Need-next-coverage-requires-2
 next-coverage-requires-2 c κs = search needs
 
-is-seven-requires-2 : tie.Need-is-seven-requires-2
-is-seven-requires-2 c κs = search needs
+is-full-requires-2 : tie.Need-is-full-requires-2
+is-full-requires-2 c κs = search needs
 
 returns : tie.Need-returns
 returns c =
@@ -39,8 +39,8 @@ returns c =
       own = k .before .before .before .own-colors .ensures;
       layer = k .before .before .layer-of .ensures;
       sure = k .before .opaque .ensures;
-      fills = n .before .is-seven .ensures ∙ ap isSeven (k .next-coverage .ensures);
-      settles = c .is-seven2 .ensures ∙ ap isSeven (n .next-coverage2 .ensures);
+      fills = n .before .is-full .ensures ∙ ap isFull (k .next-coverage .ensures);
+      settles = c .is-full2 .ensures ∙ ap isFull (n .next-coverage2 .ensures);
     }
 
 pub full-of-spec : {M : Type 1} → statement M
@@ -52,7 +52,7 @@ full-of-spec =
     layer-of-requires
     opaque-requires
     next-coverage-requires
-    is-seven-requires
+    is-full-requires
     next-coverage-requires-2
-    is-seven-requires-2
+    is-full-requires-2
     returns)

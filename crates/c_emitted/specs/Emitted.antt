@@ -25,31 +25,31 @@ use Rattle.raster_pixel.specs.Admitted.{triangleAt}
 use Rattle.raster_pixel.specs.Emitted.{cornerOf, triangleFragment, rectangleFragment}
 
 -- pixel (x, y) of a triangle: nothing where a vertex is out of range, which no admitted draw has, or where the triangle is skipped
-unfoldable pub triangleProbe : Bool → Combiner → Bool → Vertex → Vertex → Vertex → ℕ → ℕ → Fragment
-triangleProbe antialias k cull a b c y x =
+unfoldable pub emittedTriangle : Bool → Combiner → Bool → Vertex → Vertex → Vertex → ℕ → ℕ → Fragment
+emittedTriangle antialias k cull a b c y x =
     let o = sorted (a ∷ b ∷ c ∷ []) in
     let corners = map cornerOf o in
     cond (any (λ (v : Vertex). not (inRange v)) a b c) Empty
     (cond (culledOf cull a b c || eqb (natAbs (areaOf corners)) 0) Empty
     (triangleFragment antialias k o (edgesOf (triOf corners) y) y x))
 
-abbrev pub threeProbe : Bool → Combiner → Bool → Three → ℕ → ℕ → Fragment
-threeProbe antialias k cull Absent y x = Empty
-threeProbe antialias k cull (Vertices a b c) y x = triangleProbe antialias k cull a b c y x
+abbrev pub emittedThree : Bool → Combiner → Bool → Three → ℕ → ℕ → Fragment
+emittedThree antialias k cull Absent y x = Empty
+emittedThree antialias k cull (Vertices a b c) y x = emittedTriangle antialias k cull a b c y x
 
 -- pixel (x, y) of triangle i, if there is one
-unfoldable pub indexedProbe : Bool → Combiner → Bool → List Float → List ℕ → List ℕ → ℕ → ℕ → ℕ → Fragment
-indexedProbe antialias k cull vs ps is i y x =
-    cond (leb (length is / 3) i) Empty (threeProbe antialias k cull (triangleAt vs ps is i) y x)
+unfoldable pub emittedIndexed : Bool → Combiner → Bool → List Float → List ℕ → List ℕ → ℕ → ℕ → ℕ → Fragment
+emittedIndexed antialias k cull vs ps is i y x =
+    cond (leb (length is / 3) i) Empty (emittedThree antialias k cull (triangleAt vs ps is i) y x)
 
 -- pixel (x, y) of triangle i, or of the rectangle
-abbrev pub geometryProbe : Bool → Combiner → Bool → List Float → List ℕ → List ℕ → ℕ → ℕ → ℕ → Geometry → Fragment
-geometryProbe antialias k cull vs ps is i y x Nothing = Empty
-geometryProbe antialias k cull vs ps is i y x (Rectangle l t r b) =
+abbrev pub emittedGeometry : Bool → Combiner → Bool → List Float → List ℕ → List ℕ → ℕ → ℕ → ℕ → Geometry → Fragment
+emittedGeometry antialias k cull vs ps is i y x Nothing = Empty
+emittedGeometry antialias k cull vs ps is i y x (Rectangle l t r b) =
     rectangleFragment antialias (colorOf k fullShade) (record { left = l; top = t; right = r; bottom = b }) y x
-geometryProbe antialias k cull vs ps is i y x Triangles = indexedProbe antialias k cull vs ps is i y x
+emittedGeometry antialias k cull vs ps is i y x Triangles = emittedIndexed antialias k cull vs ps is i y x
 
 -- and nothing from column or row 1,024 on, where no frame reaches
-unfoldable pub pixelProbe : Bool → Combiner → Bool → Geometry → List Float → List ℕ → List ℕ → ℕ → ℕ → ℕ → Fragment
-pixelProbe antialias k cull g vs ps is i y x =
-    cond (leb 1024 x || leb 1024 y) Empty (geometryProbe antialias k cull vs ps is i y x g)
+unfoldable pub emittedPixel : Bool → Combiner → Bool → Geometry → List Float → List ℕ → List ℕ → ℕ → ℕ → ℕ → Fragment
+emittedPixel antialias k cull g vs ps is i y x =
+    cond (leb 1024 x || leb 1024 y) Empty (emittedGeometry antialias k cull vs ps is i y x g)
