@@ -1,10 +1,9 @@
 -- Pixels of one colour. One that is layered has a known colour wherever the memory has, by sums of what `layer_of` worked out; one that is steady stands
 -- alone where the samples overflow. Neither turns on the shade's alpha. Assumes nothing.
 use mathlib.Core.Path.{_≡_, refl, sym, _∙_}
-use Prim.Native.Nat.{ℕ, _+_}
+use Prim.Native.Nat.{ℕ}
 use mathlib.Core.Bool.{Bool, true, false, cond, not, _&&_, _||_}
-use native.Mathlib.Omega.{arith}
-use borrow.Author.Tests.{eqb-true, le-leb}
+use borrow.Author.Tests.{eqb-true}
 use lib.Dec.{eqb}
 use lib.IntN.{pos}
 use lib.Ieee.{Float, binary32, ofInt, add, sub, mul, div}
@@ -16,11 +15,12 @@ use Rattle.combiner.specs.declared.Combiner.{Combiner}
 use Rattle.blender.specs.declared.Coverage.{Coverage}
 use Rattle.blender.specs.declared.Coverage.the-variants.{Unknown, Known}
 use Rattle.blender.specs.Mux.{muxOf}
-use Rattle.blender.specs.Coverage.{overflow, overflows, blends}
+use Rattle.blender.specs.Coverage.{overflows, blends}
 use Rattle.blender.specs.Known.{reject, alone, missing, anyCoverage, whereUnknown, colorKnown}
 use Rattle.blender.specs.Layer.{opaqueOf, ownOf, layeredOf, steadyOf, layerOf}
 use Rattle.blender.specs.Blend.{f8, sourceOf, factorA, factorB, mixedOf, bytesOf, blendOf}
 use Rattle.blender.proofs.Solid.{never, own-source}
+use Rattle.blender.proofs.Knows.{full-alone}
 
 -- ---- the parts of a conjunction
 fst : (a b : Bool) → (a && b) ≡ true → a ≡ true
@@ -152,14 +152,7 @@ steady mode h =
 module _ {mode : RenderMode} (o : Steady mode) (alpha : Float) where
   -- a full pixel stands alone over a known coverage
   pub steady-alone : (c : ℕ) → alone mode alpha 8 (Known c) ≡ true
-  unfolding alone blends
-  steady-alone c =
-      let full : overflow 8 c ≡ true = le-leb 8 (8 + c) (omega arith) in
-      (λ i. not (o .free i || (mode .antialias && not (full i))) || reject mode alpha) ∙ go (mode .antialias)
-    where
-      go : (a : Bool) → (not (a && false) || reject mode alpha) ≡ true
-      go true = refl
-      go false = refl
+  steady-alone c = full-alone mode alpha 8 c (o .free) refl
 
   pub steady-known : (c : ℕ) (memory : Bool) → colorKnown mode alpha 8 (Known c) memory ≡ true
   unfolding colorKnown

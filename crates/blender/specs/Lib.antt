@@ -2,6 +2,7 @@
 pub mod Mux
 pub mod Coverage
 pub mod Known
+pub mod Settled
 pub mod Blend
 pub mod Layer
 pub mod Joined

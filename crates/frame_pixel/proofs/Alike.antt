@@ -2,7 +2,7 @@
 -- then as F1 and F2 say, the mark is not above the highest, and a known coverage keeps its three bits. What the rules are is looked at in the first part alone.
 -- Assumes nothing.
 use Prim.Native.Nat.{ℕ, _≤_}
-use mathlib.Core.Path.{_≡_, refl, sym, ap, ap₂, _∙_}
+use mathlib.Core.Path.{_≡_, refl, sym, ap, _∙_}
 use mathlib.Core.Bool.{Bool, true, false, cond, not, _&&_}
 use native.Mathlib.Omega.{arith}
 use lib.Dec.{eqb}
@@ -133,13 +133,21 @@ module _ (mode : RenderMode) (k : Combiner) (s : Source) (x : Pixel) where
   unfolding pixelStep assembled
   color-after = color-of-mark (knownAfter mode s x) (coverageAfter mode s x)
 
+  -- its coverage is what F5 says, as far as that is known, and its colours are those of F3 and F4
+  pub covered-after : coverageAt (pixelStep mode k s x) ≡ coverageAfter mode s x
+  unfolding pixelStep assembled
+  covered-after = coverage-of-mark (knownAfter mode s x) (coverageAfter mode s x) (x .coverage)
+
+  pub colors-after : ruleF4 (pixelStep mode k s x) ≡ colorsAfter mode k s x
+  unfolding pixelStep assembled
+  colors-after = refl
+
   pub mark-after : pixelStep mode k s x .mark ≤ highestMark
   unfolding pixelStep assembled
   mark-after = mark-le (knownAfter mode s x) (coverageAfter mode s x)
 
   pub coverage-after : 1 ≤ s .count → s .count ≤ 8 → orZero (coverageAt x) ≤ 7 → orZero (coverageAt (pixelStep mode k s x)) ≤ 7
-  unfolding pixelStep assembled
-  coverage-after p q h = rw (coverage-of-mark (knownAfter mode s x) (coverageAfter mode s x) (x .coverage)) (coverage-low mode s x p q h)
+  coverage-after p q h = rw covered-after (coverage-low mode s x p q h)
 
   -- what is not known after it is as it was
   pub kept-colors :

@@ -4,3 +4,5 @@ pub mod Rules
 pub mod Coloring
 pub mod Full
 pub mod Alike
+pub mod Knows
+pub mod Certain

@@ -1,0 +1,12 @@
+-- To be believed. Where the coverage that memory keeps does not turn on what it had: `destination` gives one number for every memory coverage 0 to 7. Definitions
+-- only; that it is exactly so is proofs/Settled.
+use Prim.Native.Nat.{ℕ}
+use mathlib.Core.Bool.{Bool, not, _&&_, _||_}
+use lib.Dec.{eqb}
+use Rattle.state.specs.declared.RenderMode.{RenderMode}
+
+-- cvg_dst 2, full; or cvg_dst 0, clamp, of a pixel that is never blended, or with all eight samples, or with seven of one that always is
+unfoldable pub settled : RenderMode → ℕ → Bool
+settled mode n =
+    let f = mode .«force_blend» in
+    eqb (mode .«cvg_dst») 2 || (eqb (mode .«cvg_dst») 0 && ((not f && not (mode .antialias)) || (eqb n 8 || (f && eqb n 7))))

@@ -1,0 +1,218 @@
+-- Knowing more never changes what was known: if pixel y knows at least what pixel x knows, then it does so after a step. A yes of F1 and F2 on x is a yes on y with
+-- the same three bytes, and a coverage that F5 knows on x it knows on y, and is the same. For every mode, combiner, source and count, and for any bytes. F2 is what the
+-- bytes need: where it has no doubt, the pixel is blended over every coverage that the memory may have, or over none. Assumes nothing.
+use Prim.Native.Nat.{ℕ, _-_}
+use mathlib.Core.Path.{_≡_, refl, sym, ap, subst, _∙_}
+use mathlib.Core.Bool.{Bool, true, false, cond, not, _&&_, _||_}
+use borrow.Author.Tests.{eqb-true, not-true}
+use lib.Dec.{eqb}
+use Rattle.state.specs.declared.RenderMode.{RenderMode}
+use Rattle.state.specs.declared.Rgba.{Rgba}
+use Rattle.combiner.specs.declared.Combiner.{Combiner}
+use Rattle.blender.specs.declared.Bytes.{Bytes}
+use Rattle.blender.specs.declared.Coverage.{Coverage}
+use Rattle.blender.specs.declared.Coverage.the-variants.{Unknown, Known}
+use Rattle.blender.specs.declared.Source.{Source}
+use Rattle.blender.specs.Coverage.{overflow, blends, destinationOf}
+use Rattle.blender.specs.Known.{reject, alone}
+use Rattle.blender.specs.Blend.{orZero}
+use Rattle.blender.proofs.Knows.{Less, less-zero, known-more, known-all, blend-same}
+use Rattle.blender.proofs.Settled.{settled-full, settled-own}
+use Rattle.frame_pixel.specs.declared.Pixel.{Pixel}
+use Rattle.frame_pixel.specs.declared.Colors.{Colors}
+use Rattle.frame_pixel.specs.Marks.{colorMarked, coverageMarked}
+use Rattle.frame_pixel.specs.Rules.{ruleF1, ruleF2, memoryOf, ruleF3, ruleF4, freshCoverage, ruleF5, coverageAt, knownAfter, colorsAfter, coverageAfter, pixelStep}
+use Rattle.frame_pixel.specs.Knows.{KnowsPixel, AllKnownPixel}
+use Rattle.frame_pixel.proofs.Alike.{never, color-after, covered-after, colors-after}
+
+-- ---- what is known of two coverages, by their marks and bytes
+less-of : (a b : Bool) (c d : ℕ) → (a ≡ true → b ≡ true) → (a ≡ true → d ≡ c) → Less (cond a (Known c) Unknown) (cond b (Known d) Unknown)
+less-of false b c d p q = Less.none
+less-of true false c d p q = never (p refl)
+less-of true true c d p q = subst (λ (k : ℕ). Less (Known c) (Known k)) (sym (q refl)) Less.same
+
+of-less : (a b : Bool) (c d : ℕ) → Less (cond a (Known c) Unknown) (cond b (Known d) Unknown) → a ≡ true → (b ≡ true) × (d ≡ c)
+of-less false b c d l t = never t
+of-less true true c d Less.same t = (refl, refl)
+
+-- ---- F5
+rule-less : (mode : RenderMode) (n : ℕ) {c d : Coverage} → Less c d → Less (ruleF5 mode n c) (ruleF5 mode n d)
+unfolding ruleF5 freshCoverage
+rule-less mode n Less.same = Less.same
+rule-less mode n (Less.none {d}) = go d
+  where
+    k : ℕ
+    k = mode .«cvg_dst»
+
+    known : (v : ℕ) {d : ℕ} → d ≡ v → Less (Known v) (Known d)
+    known v e = subst (λ (d : ℕ). Less (Known v) (Known d)) (sym e) Less.same
+
+    own : (z f a : Bool) → eqb k 0 ≡ z → mode .«force_blend» ≡ f → mode .antialias ≡ a → (c : ℕ) → Less (cond (z && not f && not a) (Known (n - 1)) Unknown) (Known (destinationOf mode n c))
+    own false f a e p q c = Less.none
+    own true true a e p q c = Less.none
+    own true false true e p q c = Less.none
+    own true false false e p q c = known (n - 1) (settled-own mode n c (eqb-true k 0 e) p q)
+
+    full : (two : Bool) → eqb k 2 ≡ two → (c : ℕ) → Less (cond two (Known 7) (cond (eqb k 0 && not (mode .«force_blend») && not (mode .antialias)) (Known (n - 1)) Unknown)) (Known (destinationOf mode n c))
+    full true e c = known 7 (settled-full mode n c (eqb-true k 2 e))
+    full false e c = own (eqb k 0) (mode .«force_blend») (mode .antialias) refl refl refl c
+
+    self : (c : Coverage) → Less c c
+    self Unknown = Less.none
+    self (Known c) = Less.same
+
+    go : (d : Coverage) → Less (freshCoverage mode n) (ruleF5 mode n d)
+    go Unknown = self (freshCoverage mode n)
+    go (Known c) = full (eqb k 2) refl c
+
+-- ---- F1 and F2
+doubt-less : (mode : RenderMode) (s : Source) {c d : Coverage} → Less c d → ruleF2 mode s c ≡ false → ruleF2 mode s d ≡ false
+unfolding ruleF2
+doubt-less mode s (Less.none {d}) t = go d
+  where
+    go : (d : Coverage) → ruleF2 mode s d ≡ false
+    go Unknown = t
+    go (Known c) = refl
+doubt-less mode s Less.same t = refl
+
+-- where F2 has no doubt, the pixel stands alone over every coverage that the memory may have, or over none
+sure-alone :
+    (mode : RenderMode) (s : Source) (n : ℕ) {c : Coverage} {i j : ℕ} → ruleF2 mode s c ≡ false → Less c (Known i) → Less c (Known j)
+    → alone mode (s .color .a) n (Known i) ≡ alone mode (s .color .a) n (Known j)
+unfolding ruleF2 alone blends
+sure-alone mode s n t Less.same Less.same = refl
+sure-alone mode s n {i = i} {j = j} t Less.none Less.none =
+    go (mode .antialias) (mode .«force_blend») (reject mode (s .color .a)) (not (overflow n i)) (not (overflow n j)) t
+  where
+    go : (a f r o q : Bool) → (true && a && not f && not r) ≡ false → (not (f || (a && o)) || r) ≡ (not (f || (a && q)) || r)
+    go a true r o q t = refl
+    go false false r o q t = refl
+    go true false false o q t = never (sym t)
+    go true false true o q t = or-true (not o) ∙ sym (or-true (not q))
+      where
+        or-true : (b : Bool) → (b || true) ≡ true
+        or-true true = refl
+        or-true false = refl
+
+module _ (mode : RenderMode) (s : Source) (c : Coverage) (a : Bool) (yes-here : (ruleF1 mode s c a && not (ruleF2 mode s c)) ≡ true) where
+  said : ruleF1 mode s c a ≡ true
+  said = go (ruleF1 mode s c a) yes-here
+    where
+      go : (p : Bool) → (p && not (ruleF2 mode s c)) ≡ true → p ≡ true
+      go true t = refl
+      go false t = never t
+
+  sure : ruleF2 mode s c ≡ false
+  sure = not-true (ruleF2 mode s c) (go (ruleF1 mode s c a) yes-here)
+    where
+      go : (p : Bool) → (p && not (ruleF2 mode s c)) ≡ true → not (ruleF2 mode s c) ≡ true
+      go true t = t
+      go false t = never t
+
+  module _ (d : Coverage) (b : Bool) (l : Less c d) (h : a ≡ true → b ≡ true) where
+    yes-too : (ruleF1 mode s d b && not (ruleF2 mode s d)) ≡ true
+    unfolding ruleF1
+    yes-too = λ i. known-more mode (s .color .a) (s .count) c a said l h i && not (doubt-less mode s l sure i)
+
+    colors-too : (k : Combiner) {m m′ : Rgba} → (a ≡ true → m′ ≡ m) → ruleF3 mode k s d m′ ≡ ruleF3 mode k s c m
+    unfolding ruleF1 ruleF3
+    colors-too k {m} {m′} e =
+        ap (λ (v : Bytes). record { red = v .r; green = v .g; blue = v .b })
+        (blend-same mode k (s .color) (s .«shade_alpha») (s .count) c a m′ m (orZero d) (orZero c) said e (less-zero l) (less-zero self)
+        (sure-alone mode s (s .count) sure (less-zero l) (less-zero self)))
+      where
+        self : Less c c
+        self = go c
+          where
+            go : (c : Coverage) → Less c c
+            go Unknown = Less.none
+            go (Known c) = Less.same
+
+-- ---- a step
+-- the memory's colour, where it is known
+pub memory-too : (y x : Pixel) → KnowsPixel y x → colorMarked (x .mark) ≡ true → memoryOf (colorMarked (y .mark)) y ≡ memoryOf (colorMarked (x .mark)) x
+unfolding memoryOf
+memory-too y x h t = rw (t, h .marked t, h .red t, h .green t, h .blue t)
+
+module _ (mode : RenderMode) (k : Combiner) (s : Source) (y x : Pixel) (h : KnowsPixel y x) where
+  less : Less (coverageAt x) (coverageAt y)
+  less = less-of (coverageMarked (x .mark)) (coverageMarked (y .mark)) (x .coverage) (y .coverage) (h .covered) (h .coverage)
+
+  -- a colour that is known after it on x is known after it on y
+  pub known-too : knownAfter mode s x ≡ true → knownAfter mode s y ≡ true
+  unfolding knownAfter
+  known-too t = yes-too mode s (coverageAt x) (colorMarked (x .mark)) t (coverageAt y) (colorMarked (y .mark)) less (h .marked)
+
+  -- and is the same
+  pub same-colors : knownAfter mode s x ≡ true → colorsAfter mode k s y ≡ colorsAfter mode k s x
+  unfolding colorsAfter knownAfter
+  same-colors t =
+      (λ i. cond (known-too t i) (ruleF3 mode k s (coverageAt y) (memoryOf (colorMarked (y .mark)) y)) (ruleF4 y))
+      ∙ colors-too mode s (coverageAt x) (colorMarked (x .mark)) t (coverageAt y) (colorMarked (y .mark)) less (h .marked) k (memory-too y x h)
+      ∙ (λ i. cond (sym t i) (ruleF3 mode k s (coverageAt x) (memoryOf (colorMarked (x .mark)) x)) (ruleF4 x))
+
+  -- a coverage that is known after it on x is known after it on y, and is the same
+  pub coverage-too : Less (coverageAfter mode s x) (coverageAfter mode s y)
+  unfolding coverageAfter
+  coverage-too = rule-less mode (s .count) less
+
+  -- One emitted pixel keeps the order: if y knows at least what x knows, it does so after the pixel.
+  pub pixel-knows : KnowsPixel (pixelStep mode k s y) (pixelStep mode k s x)
+  pixel-knows =
+      record {
+        marked = λ t. color-after mode k s y ∙ known-too (was t);
+        red = λ t. ap (λ (c : Colors). c .red) (colors t);
+        green = λ t. ap (λ (c : Colors). c .green) (colors t);
+        blue = λ t. ap (λ (c : Colors). c .blue) (colors t);
+        covered = λ t. coverage t .0;
+        coverage = λ t. coverage t .1;
+      }
+    where
+      x-after : Pixel
+      x-after = pixelStep mode k s x
+
+      y-after : Pixel
+      y-after = pixelStep mode k s y
+
+      was : colorMarked (x-after .mark) ≡ true → knownAfter mode s x ≡ true
+      was t = sym (color-after mode k s x) ∙ t
+
+      colors : colorMarked (x-after .mark) ≡ true → ruleF4 y-after ≡ ruleF4 x-after
+      colors t = colors-after mode k s y ∙ same-colors (was t) ∙ sym (colors-after mode k s x)
+
+      coverage : coverageMarked (x-after .mark) ≡ true → (coverageMarked (y-after .mark) ≡ true) × (y-after .coverage ≡ x-after .coverage)
+      coverage =
+          of-less (coverageMarked (x-after .mark)) (coverageMarked (y-after .mark)) (x-after .coverage) (y-after .coverage)
+          (rw (covered-after mode k s x, covered-after mode k s y) coverage-too)
+
+-- ---- a pixel of which everything is known
+-- its coverage
+pub all-covered : (x : Pixel) → AllKnownPixel x → coverageAt x ≡ Known (x .coverage)
+all-covered x h = λ i. cond (h .covered i) (Known (x .coverage)) Unknown
+
+module _ (mode : RenderMode) (k : Combiner) (s : Source) (x : Pixel) (h : AllKnownPixel x) where
+  -- F1 says yes, and F2 has no doubt
+  pub all-known : knownAfter mode s x ≡ true
+  unfolding knownAfter ruleF1 ruleF2
+  all-known =
+      (λ i. ruleF1 mode s (all-covered x h i) (h .marked i) && not (ruleF2 mode s (all-covered x h i)))
+      ∙ (λ i. known-all mode (s .color .a) (s .count) (x .coverage) i && true)
+
+  -- everything is known of it after an emitted pixel
+  pub pixel-all-known : AllKnownPixel (pixelStep mode k s x)
+  unfolding ruleF5 coverageAfter
+  pixel-all-known =
+      record {
+        marked = color-after mode k s x ∙ all-known;
+        covered =
+            of-known (coverageMarked (pixelStep mode k s x .mark)) (pixelStep mode k s x .coverage)
+            (covered-after mode k s x ∙ ap (ruleF5 mode (s .count)) (all-covered x h));
+      }
+    where
+      of-known : (b : Bool) (c : ℕ) {d : ℕ} → cond b (Known c) Unknown ≡ Known d → b ≡ true
+      of-known true c e = refl
+      of-known false c e = ap known e
+        where
+          known : Coverage → Bool
+          known Unknown = false
+          known (Known c) = true
