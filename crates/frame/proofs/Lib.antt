@@ -3,4 +3,5 @@ pub mod Tests
 pub mod Fits
 pub mod Loads
 pub mod Refusals
+pub mod Knows
 pub mod Alike

@@ -6,3 +6,4 @@ pub mod Loads
 pub mod Checks
 pub mod Finding
 pub mod Alike
+pub mod Knows
