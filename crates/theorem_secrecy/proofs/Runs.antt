@@ -30,7 +30,8 @@ use Rattle.frame_draw.proofs.Frames.{pixelsOf, plan-marked}
 use Rattle.words_run.specs.Run.{readAt, RunAnswer, runBy, runAnswer}
 use Rattle.words_run.proofs.Answers.{answers-same}
 use Rattle.words_read.specs.Read.{ReadArgs, writerOf, wordRefusal, readRefusal, wordOf, wordOr, readAnswer}
-use Rattle.theorem_secrecy.specs.Runs.{Call, Answer, Said, answerTo, frameAfter, answers, frameAfterAll, verdictAt, verdicts, saidByPlan, saidBy, said, lastAt, knownAt, Secret}
+use Rattle.theorem_calls.specs.Calls.{Call, Answer, answerTo, frameAfter, answers, frameAfterAll}
+use Rattle.theorem_secrecy.specs.Runs.{Said, verdictAt, verdicts, saidByPlan, saidBy, said, lastAt, knownAt, Secret}
 use Rattle.frame.specs.Alike.{Alike}
 use Rattle.theorem_secrecy.proofs.Alike.{list-alike}
 use Rattle.frame.proofs.Alike.{refusal-same}

@@ -1,5 +1,5 @@
--- To be believed. Demand 3: any list of draws, word reads and runs of them on one frame, and what the verdicts of F1 and F2 said of a pixel. Definitions only. Source: docs/RULES.md,
--- What is not known does not show. The sizes w and h are fixed with the frame; a list starts from any sizes and slices, also ones that numbers 1 to 3 refuse.
+-- To be believed. Demand 3, over any list of calls on a frame: what is not known shows in no answer, and the marks are as the verdicts of F1 and F2 said. Definitions
+-- only. Source: docs/RULES.md, What is not known does not show.
 use Prim.Native.Nat.{ℕ}
 use mathlib.Core.Path.{_≡_}
 use mathlib.Core.Bool.{Bool, cond}
@@ -14,53 +14,15 @@ use Rattle.raster_pixel.specs.Emitted.{Emit}
 use Rattle.frame.specs.Frame.{Frame, pixelAt}
 use Rattle.frame.specs.Alike.{Alike}
 use Rattle.frame_paint.specs.Steps.{sourceOf, stepFrame}
-use Rattle.frame_draw.specs.Draw.{DrawArgs, Plan, planOf, DrawAnswer, drawAnswer, drawFrame}
-use Rattle.words_read.specs.Read.{ReadArgs, WordAnswer, readAnswer}
-use Rattle.words_run.specs.Run.{RunAnswer, runAnswer}
+use Rattle.frame_draw.specs.Draw.{Plan, planOf}
+use Rattle.theorem_calls.specs.Calls.{Call, frameAfter, answers, frameAfterAll}
 
--- ---- a list of calls
-
--- a call, with all its arguments but the frame
-pub data Call : Type 0 where
-  draw : DrawArgs → Call
-  read : ReadArgs → Call
-  -- a run, with the lent slices for words and numbers as they are before it
-  reads : ReadArgs → List ℕ → List ℕ → Call
-
--- number and pixel count, number and word bytes, or a run's number and count with the two slices after it
-pub data Answer : Type 0 where
-  drawn : DrawAnswer → Answer
-  word : WordAnswer → Answer
-  run : RunAnswer → Answer
+-- ---- what F1 and F2 said
 
 -- a pixel and a verdict on it
 pub record Said : Type 0 where
   pub pixel : ℕ
   pub verdict : Bool
-
-module _ (w h : ℕ) where
-  abbrev pub answerTo : Call → Frame → Answer
-  answerTo (Call.draw d) f = Answer.drawn (drawAnswer d w h f)
-  answerTo (Call.read a) f = Answer.word (readAnswer a w h f)
-  answerTo (Call.reads a ws ns) f = Answer.run (runAnswer a w h f ws ns)
-
-  -- a word read, a run of them and a refused call leave every byte
-  abbrev pub frameAfter : Call → Frame → Frame
-  frameAfter (Call.draw d) f = drawFrame d w h f
-  frameAfter (Call.read a) f = f
-  frameAfter (Call.reads a ws ns) f = f
-
-  -- the answers to a list, each call on the frame that the call before left
-  abbrev pub answers : List Call → Frame → List Answer
-  answers [] f = []
-  answers (o ∷ os) f = answerTo o f ∷ answers os (frameAfter o f)
-
-  -- the frame after a list
-  abbrev pub frameAfterAll : List Call → Frame → Frame
-  frameAfterAll [] f = f
-  frameAfterAll (o ∷ os) f = frameAfterAll os (frameAfter o f)
-
--- ---- what F1 and F2 said
 
 -- the verdict on an emitted pixel, on the bytes just before it: that of the rules
 abbrev pub verdictAt : RenderMode → Frame → Emit → Bool

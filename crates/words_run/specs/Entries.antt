@@ -16,6 +16,7 @@ use Rattle.frame.specs.Frame.{Frame, pixelAt}
 use Rattle.frame.specs.Lent.{Slice, old, new}
 use Rattle.words_read.specs.Read.{WordAnswer, noWord, readable, bytesOf}
 use Rattle.words_run.specs.declared.entry.Place.{Place}
+use Rattle.words_run.specs.Run.{entryOf}
 
 -- ---- the two slices
 pub record Entries : Type 0 where
@@ -25,9 +26,8 @@ pub record Entries : Type 0 where
 abbrev pub entriesOf : List ℕ → List ℕ → Entries
 entriesOf words numbers = record { words = words; numbers = numbers }
 
--- entry i has bytes 2i and 2i + 1, and number i
 abbrev pub entryAt : Entries → ℕ → WordAnswer
-entryAt s i = record { number = getD (s .numbers) i 0; word = (getD (s .words) (2 * i) 0, getD (s .words) (2 * i + 1) 0) }
+entryAt s i = entryOf (s .words) (s .numbers) i
 
 abbrev pub putEntry : Entries → ℕ → WordAnswer → Entries
 putEntry s i x =

@@ -1,10 +1,10 @@
 -- To be believed. A run of words: the single word reads of the pixels first, first + 1, .. on one frame, one after the other, into lent slices for their bytes and numbers.
 -- Definitions only.
 use Prim.Native.Nat.{ℕ, zero, suc, _+_, _*_, _≤_}
-use mathlib.Core.Bool.{Bool, cond}
+use mathlib.Core.Bool.{cond}
 use mathlib.Core.List.{List, [], _∷_}
 use lib.Dec.{eqb}
-use lib.ListN.{length}
+use lib.ListN.{length, getD}
 use Rattle.frame.specs.Frame.{Frame}
 use Rattle.words_run.specs.declared.Run.{Run}
 use Rattle.words_run.specs.declared.Run.the-variants.{Read, Refused}
@@ -31,6 +31,10 @@ numbersOf (x ∷ xs) = x .number ∷ numbersOf xs
 abbrev pub wordsOf : List WordAnswer → List ℕ
 wordsOf [] = []
 wordsOf (x ∷ xs) = x .word .0 ∷ x .word .1 ∷ wordsOf xs
+
+-- entry i of two such slices, as an answer
+abbrev pub entryOf : List ℕ → List ℕ → ℕ → WordAnswer
+entryOf words numbers i = record { number = getD numbers i 0; word = (getD words (2 * i) 0, getD words (2 * i + 1) 0) }
 
 -- how many of them are words
 abbrev pub oneIf : ℕ → ℕ

@@ -1,0 +1,2 @@
+-- A list of calls on one frame.
+pub mod Calls
