@@ -1,0 +1,5 @@
+-- The theorem that what is known is true, and its laws.
+pub mod Words
+pub mod Truth
+pub mod Completed
+pub mod Doubt

@@ -1,0 +1,4 @@
+-- The definitions of the theorem that what is known is true.
+pub mod Truth
+pub mod Completed
+pub mod Doubt
