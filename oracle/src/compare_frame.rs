@@ -1,41 +1,19 @@
 //! Lists of draws and word reads on the library's frame and on the one of frame.rs: every answer, and every byte of the
-//! three slices after each call. And lists on two frames that differ in unknown bytes.
+//! three slices after each call. And the same lists on a frame that knows everything, and others on two frames that differ in
+//! unknown bytes (compare_known.rs).
 
 use crate::compare::{Line, Part};
+use crate::compare_known::{two_runs, Call, Held, KnownFrame};
 use crate::draws::{Frame, Step};
-use crate::frame::{self, Branches};
+use crate::frame::Branches;
 use crate::inputs::Inputs;
-use crate::library;
-use crate::lists::{is_long, twin, Class, List};
+use crate::lists::{is_long, Class, List};
+use crate::sides::{on_frame, place, Answered, Library, Ran, Side};
 use std::iter::Sum;
 
-/// A call's number, and the pixel count or the word.
-pub type Answered = (u32, u64);
-
-fn on_library(frame: &mut Frame, step: &Step) -> Answered {
-    match step {
-        Step::Draw(draw) => {
-            let answer = library::draw(frame, draw);
-            (answer.number, answer.pixels)
-        }
-        Step::Read(read) => {
-            let answer = library::read_word(frame, read);
-            (answer.number, answer.value.into())
-        }
-    }
-}
-
+/// A call on the frame of frame.rs.
 pub fn on_original(frame: &mut Frame, step: &Step, branches: &mut Branches) -> Answered {
-    match step {
-        Step::Draw(draw) => {
-            let answer = frame::draw(frame, draw, branches);
-            (answer.number, answer.pixels)
-        }
-        Step::Read(read) => {
-            let answer = frame::read_word(frame, read);
-            (answer.number, answer.value.into())
-        }
-    }
+    on_frame(frame, step, |pen, frame, pixel, emitted| pen.put(frame, pixel, emitted, branches))
 }
 
 /// How often what came.
@@ -51,6 +29,7 @@ pub struct Counts {
     /// Accepted draws over the most triangles.
     long: u64,
     branches: Branches,
+    held: Held,
 }
 
 impl Counts {
@@ -66,78 +45,27 @@ impl Counts {
     }
 }
 
-/// The frame's text where it is short, and else how its bytes begin.
-fn shown(frame: &Frame) -> String {
-    let mut text = frame.text();
-    if text.len() > 20_000 {
-        text.truncate(2_000);
-        text += "..";
-    }
-    text
-}
-
-/// Where two frames differ first.
-fn place(a: &Frame, b: &Frame) -> String {
-    let slices =
-        [("colors", &a.colors, &b.colors), ("coverages", &a.coverages, &b.coverages), ("marks", &a.marks, &b.marks)];
-    for (name, a, b) in slices {
-        if let Some(at) = a.iter().zip(b).position(|(a, b)| a != b) {
-            return format!("{name}[{at}]: {:02x} and {:02x}", a[at], b[at]);
-        }
-    }
-    "no byte".into()
-}
-
-/// One call of a list, and what came of it on two frames.
-struct Ran<'a> {
-    step: &'a Step,
-    before: Frame,
-    after: [&'a Frame; 2],
-    answers: [Answered; 2],
-}
-
-impl Ran<'_> {
-    fn difference(&self, title: &str, names: [&str; 2]) -> String {
-        let mut text =
-            format!("{title}: DIFFERENT\n  call: {}\n  frame before: {}\n", self.step.text(), shown(&self.before));
-        text += &format!("  differs first: {}", place(self.after[0], self.after[1]));
-        for ((name, frame), (number, value)) in names.iter().zip(self.after).zip(self.answers) {
-            text += &format!("\n  {name}: {number:08x} {value:08x}, frame {}", shown(frame));
-        }
-        text
-    }
-}
-
-fn check(list: &List, counts: &mut Counts) -> Result<(), String> {
+/// The list on the library and on the original, and on the library again where everything is known.
+fn check(list: &List, inputs: &mut Inputs, counts: &mut Counts) -> Result<(), String> {
     let mut library = list.frame.clone();
     let mut original = list.frame.clone();
+    let mut known = KnownFrame::beside(&list.frame, inputs);
     for step in &list.steps {
         let before = library.clone();
-        let answers = [on_library(&mut library, step), on_original(&mut original, step, &mut counts.branches)];
+        let answers = [Library.call(&mut library, step), on_original(&mut original, step, &mut counts.branches)];
         if answers[0] != answers[1] || library != original {
-            let ran = Ran { step, before, after: [&library, &original], answers };
-            return Err(ran.difference("list", ["library", "Rust"]));
+            let ran = Ran { step, before: [&before; 2], after: [&library, &original], answers };
+            return Err(ran.difference("list", ["library", "Rust"], &place(&library, &original)));
         }
         counts.count(step, answers[1]);
+        if let Some(known) = &mut known {
+            known.follow(&Library, &Call { step, before: &before, after: &library, answer: answers[0] })?;
+        }
+    }
+    if let Some(known) = known {
+        counts.held = counts.held + known.finish(&Library, &library, inputs)?;
     }
     counts.lists += 1;
-    Ok(())
-}
-
-/// The same list on two frames: the answers are equal, and the frames alike again.
-fn check_twins(list: &List, inputs: &mut Inputs, counts: &mut Counts) -> Result<(), String> {
-    let mut one = list.frame.clone();
-    let mut other = twin(inputs, &list.frame);
-    for step in &list.steps {
-        let before = other.clone();
-        let answers = [on_library(&mut one, step), on_library(&mut other, step)];
-        if answers[0] != answers[1] || !one.like(&other) {
-            let ran = Ran { step, before, after: [&one, &other], answers };
-            return Err(ran.difference("two runs", ["library, first frame", "library, second frame"]));
-        }
-        counts.twin_calls += 1;
-    }
-    counts.twins += 1;
     Ok(())
 }
 
@@ -147,10 +75,11 @@ pub fn lists(part: &Part) -> Result<Counts, String> {
     let mut inputs = part.inputs();
     for number in part.tries(300_000) {
         let class = if number % 50_000 == 0 { Class::Whole } else { Class::Any };
-        check(&List::at_random(&mut inputs, class), &mut counts)?;
+        check(&List::at_random(&mut inputs, class), &mut inputs, &mut counts)?;
         if number % 4 == 0 {
             let list = List::at_random(&mut inputs, Class::Small);
-            check_twins(&list, &mut inputs, &mut counts)?;
+            counts.twin_calls += two_runs(&Library, &list, &mut inputs)?;
+            counts.twins += 1;
         }
     }
     Ok(counts)
@@ -182,6 +111,7 @@ impl Sum for Counts {
             pixels: a.pixels + b.pixels,
             long: a.long + b.long,
             branches: both(a.branches, b.branches),
+            held: a.held + b.held,
         })
     }
 }
@@ -202,6 +132,8 @@ impl Counts {
         let answers = ["no", "in doubt", "yes"];
         let ways = ["with cvg_dst 0", "1", "2", "3", "above"];
         let Branches { colors, destinations, marked, left, memory_colors, divided } = self.branches;
+        let Held { lists, calls, words, colors: known_colors, coverages } = self.held;
+        let held = [lists, calls, words, known_colors, coverages];
         vec![
             ("lists", named(["compared", "pixels", "draws of 4,096 triangles"], [self.lists, self.pixels, self.long])),
             ("draw", numbers(&self.draws, &[0, 1, 2, 3, 4, 5, 6, 7])),
@@ -213,6 +145,7 @@ impl Counts {
             ("F5, coverage unmarked", named(ways, destinations[0])),
             ("F5, coverage unmarked", named(["became marked", "left"], [marked, left])),
             ("two runs", named(["lists", "calls"], [self.twins, self.twin_calls])),
+            ("known frame", named(["lists", "calls", "words", "known colours", "known coverages"], held)),
         ]
     }
 }

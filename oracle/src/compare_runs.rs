@@ -5,7 +5,7 @@ use crate::compare::{Line, Part};
 use crate::draws::{Frame, Read};
 use crate::frame;
 use crate::inputs::Inputs;
-use crate::library;
+use crate::library::{self, RunAnswer};
 use crate::lists::{frame_and_read, Class};
 use std::iter::Sum;
 
@@ -54,28 +54,11 @@ fn filled(inputs: &mut Inputs, length: usize) -> Vec<u8> {
     (0..length).map(|_| inputs.byte()).collect()
 }
 
-fn on_original(frame: &Frame, read: &Read, mut words: Vec<u8>, mut numbers: Vec<u8>) -> Ran {
-    if words.len() != 2 * numbers.len() {
-        return Ran { number: 19, count: 0, words, numbers };
-    }
-    // What `frame::read_word` asks first, asked once.
-    let refusal = frame::frame_number(frame);
-    for (i, (number, word)) in numbers.iter_mut().zip(words.chunks_exact_mut(2)).enumerate() {
-        // No frame has the largest pixel.
-        let pixel = read.pixel.saturating_add(i);
-        let answer = match refusal {
-            0 => frame::read_pixel(frame, &Read { pixel, ..*read }),
-            number => library::Answer { number, value: 0 },
-        };
-        *number = answer.number as u8;
-        word.copy_from_slice(&(answer.value as u16).to_le_bytes());
-    }
-    let count = numbers.iter().filter(|number| **number == 0).count() as u64;
-    Ran { number: 0, count, words, numbers }
-}
+/// The library's runs or those of frame.rs.
+type Run = fn(&Frame, &Read, &mut [u8], &mut [u8]) -> RunAnswer;
 
-fn on_library(frame: &Frame, read: &Read, mut words: Vec<u8>, mut numbers: Vec<u8>) -> Ran {
-    let answer = library::read_words(frame, read, &mut words, &mut numbers);
+fn ran(run: Run, frame: &Frame, read: &Read, mut words: Vec<u8>, mut numbers: Vec<u8>) -> Ran {
+    let answer = run(frame, read, &mut words, &mut numbers);
     Ran { number: answer.number, count: answer.words, words, numbers }
 }
 
@@ -90,8 +73,8 @@ fn check(inputs: &mut Inputs, class: Class, counts: &mut Counts) -> Result<(), S
     let read = Read { pixel: first, ..read };
     let words = bytes(inputs, entries);
     let (words, numbers) = (filled(inputs, words), filled(inputs, entries));
-    let library = on_library(&frame, &read, words.clone(), numbers.clone());
-    let original = on_original(&frame, &read, words, numbers);
+    let library = ran(library::read_words, &frame, &read, words.clone(), numbers.clone());
+    let original = ran(frame::read_words, &frame, &read, words, numbers);
     if library != original {
         return Err(format!(
             "read_words: DIFFERENT\n  first {first:x}, fmt {}, siz {}, rgb_dither {}, big_endian {}\n  frame: {}\n  library: {library:?}\n  Rust: {original:?}",

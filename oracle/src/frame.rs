@@ -2,7 +2,7 @@
 //! so this is a second writing of the rules, and not of the port.
 
 use crate::draws::{Draw, Frame, Read, Shape};
-use crate::library::{Answer, DrawAnswer};
+use crate::library::{Answer, DrawAnswer, RunAnswer};
 use crate::rust;
 use original::writeback::{self, Parts};
 use original::{coherence, FramebufferEncoding, RenderMode};
@@ -72,25 +72,37 @@ fn shape_number(shape: &Shape) -> u32 {
 }
 
 /// What every pixel of a draw shares.
-struct Pen<'a> {
-    mode: RenderMode,
-    parts: &'a Parts,
+pub struct Pen<'a> {
+    pub mode: RenderMode,
+    pub parts: &'a Parts,
 }
 
 /// What is emitted for one pixel.
-struct Emitted {
-    count: u8,
-    rgba: [f32; 4],
-    shade_alpha: f32,
+pub struct Emitted {
+    pub count: u8,
+    pub rgba: [f32; 4],
+    pub shade_alpha: f32,
+}
+
+/// F5: the coverage if it is marked afterwards.
+pub fn covered(mode: RenderMode, count: u8, coverage: Option<u8>) -> Option<u8> {
+    let RenderMode { cvg_dst, force_blend, antialias, .. } = mode;
+    match coverage {
+        Some(coverage) => Some(writeback::destination(mode, count, coverage)),
+        None if cvg_dst == 2 => Some(7),
+        None if cvg_dst == 0 && !force_blend && !antialias => Some(count - 1),
+        None => None,
+    }
 }
 
 impl Pen<'_> {
-    fn selectors(&self) -> [u16; 4] {
+    /// P, A, M and B.
+    pub fn selectors(&self) -> [u16; 4] {
         [14, 10, 6, 2].map(|low| self.mode.blender_mux >> low & 3)
     }
 
     /// F1 and F2.
-    fn answer(&self, emitted: &Emitted, coverage: Option<u8>, colored: bool) -> usize {
+    pub fn answer(&self, emitted: &Emitted, coverage: Option<u8>, colored: bool) -> usize {
         let alpha = emitted.rgba[3];
         if !writeback::color_known(self.mode, alpha, emitted.count, coverage, colored) {
             return NO;
@@ -104,7 +116,7 @@ impl Pen<'_> {
     }
 
     /// F3.
-    fn stored(&self, emitted: &Emitted, memory: Option<[u8; 3]>, coverage: u8) -> [u8; 3] {
+    pub fn stored(&self, emitted: &Emitted, memory: Option<[u8; 3]>, coverage: u8) -> [u8; 3] {
         let memory = match memory {
             Some(bytes) => bytes.map(|byte| f32::from(byte) / 255.0),
             None => [0.0; 3],
@@ -117,28 +129,15 @@ impl Pen<'_> {
         [r, g, b]
     }
 
-    /// F5: the coverage if it is marked afterwards.
-    fn covered(&self, count: u8, coverage: Option<u8>) -> Option<u8> {
-        let RenderMode { cvg_dst, force_blend, antialias, .. } = self.mode;
-        match coverage {
-            Some(coverage) => Some(writeback::destination(self.mode, count, coverage)),
-            None if cvg_dst == 2 => Some(7),
-            None if cvg_dst == 0 && !force_blend && !antialias => Some(count - 1),
-            None => None,
-        }
-    }
-
     /// F1 to F5 on one pixel.
-    fn put(&self, frame: &mut Frame, pixel: usize, emitted: &Emitted, branches: &mut Branches) {
-        let mark = frame.marks[pixel];
-        let bytes = &mut frame.colors[3 * pixel..3 * pixel + 3];
-        let memory = known_color(mark).then_some([bytes[0], bytes[1], bytes[2]]);
-        let coverage = known_coverage(mark).then_some(frame.coverages[pixel]);
+    pub fn put(&self, frame: &mut Frame, pixel: usize, emitted: &Emitted, branches: &mut Branches) {
+        let (memory, coverage) = frame.known(pixel);
         let answer = self.answer(emitted, coverage, memory.is_some());
         if answer == YES {
-            bytes.copy_from_slice(&self.stored(emitted, memory, coverage.unwrap_or(0)));
+            let stored = self.stored(emitted, memory, coverage.unwrap_or(0));
+            frame.colors[3 * pixel..3 * pixel + 3].copy_from_slice(&stored);
         }
-        let covered = self.covered(emitted.count, coverage);
+        let covered = covered(self.mode, emitted.count, coverage);
         if let Some(covered) = covered {
             frame.coverages[pixel] = covered;
         }
@@ -173,6 +172,11 @@ impl Pen<'_> {
 }
 
 pub fn draw(frame: &mut Frame, draw: &Draw, branches: &mut Branches) -> DrawAnswer {
+    draw_with(frame, draw, |pen, frame, pixel, emitted| pen.put(frame, pixel, emitted, branches))
+}
+
+/// A draw, of which every emitted pixel is handed to `put`.
+pub fn draw_with(frame: &mut Frame, draw: &Draw, mut put: impl FnMut(&Pen, &mut Frame, usize, &Emitted)) -> DrawAnswer {
     let refused = |number| DrawAnswer { number, pixels: 0 };
     let number = match frame_number(frame) {
         0 => shape_number(&draw.shape),
@@ -193,7 +197,7 @@ pub fn draw(frame: &mut Frame, draw: &Draw, branches: &mut Branches) -> DrawAnsw
     let mut pixels = 0;
     shape.rasterize((frame.width as usize, frame.height as usize), |pixel, count, rgba, shade_alpha| {
         pixels += 1;
-        pen.put(frame, pixel, &Emitted { count, rgba, shade_alpha }, branches);
+        put(&pen, frame, pixel, &Emitted { count, rgba, shade_alpha });
     });
     DrawAnswer { number: 0, pixels }
 }
@@ -228,7 +232,35 @@ pub fn read_pixel(frame: &Frame, read: &Read) -> Answer {
     Answer { number: 0, value: u32::from(u16::from_le_bytes(word)) }
 }
 
+/// The run of words from the read's pixel on.
+pub fn read_words(frame: &Frame, read: &Read, words: &mut [u8], numbers: &mut [u8]) -> RunAnswer {
+    if words.len() != 2 * numbers.len() {
+        return RunAnswer { number: 19, words: 0 };
+    }
+    // What `read_word` asks first, asked once.
+    let refusal = frame_number(frame);
+    for (i, (number, word)) in numbers.iter_mut().zip(words.chunks_exact_mut(2)).enumerate() {
+        // No frame has the largest pixel.
+        let pixel = read.pixel.saturating_add(i);
+        let answer = match refusal {
+            0 => read_pixel(frame, &Read { pixel, ..*read }),
+            number => Answer { number, value: 0 },
+        };
+        *number = answer.number as u8;
+        word.copy_from_slice(&(answer.value as u16).to_le_bytes());
+    }
+    RunAnswer { number: 0, words: numbers.iter().filter(|number| **number == 0).count() as u64 }
+}
+
 impl Frame {
+    /// A pixel's colour and coverage, where they are marked.
+    pub fn known(&self, pixel: usize) -> (Option<[u8; 3]>, Option<u8>) {
+        let mark = self.marks[pixel];
+        let bytes = &self.colors[3 * pixel..3 * pixel + 3];
+        let color = known_color(mark).then_some([bytes[0], bytes[1], bytes[2]]);
+        (color, known_coverage(mark).then_some(self.coverages[pixel]))
+    }
+
     /// Whether two frames differ in bytes alone that are not known, for slices of any length: the demand for secrecy says
     /// so of marks that number 3 refuses, too.
     pub fn like(&self, other: &Frame) -> bool {

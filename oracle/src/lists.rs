@@ -222,7 +222,8 @@ fn draw(inputs: &mut Inputs, size: (u32, u32), class: Class) -> Draw {
     Draw { mode: mode(inputs), uniform: uniform(inputs), shape }
 }
 
-fn read(inputs: &mut Inputs, (width, height): (u32, u32)) -> Read {
+/// Mostly a pixel of the frame and a supported writer.
+pub fn read(inputs: &mut Inputs, (width, height): (u32, u32)) -> Read {
     let n = width * height;
     let inside = inputs.below(n) as usize;
     let past = inputs.pick(&[n, n + 1, 1 << 20, u32::MAX]) as usize;
@@ -288,6 +289,21 @@ pub fn twin(inputs: &mut Inputs, frame: &Frame) -> Frame {
         }
     }
     twin
+}
+
+/// A frame that knows everything: the bytes that are known stay, and the others are any that the console's memory may hold.
+pub fn completed(inputs: &mut Inputs, frame: &Frame) -> Frame {
+    let mut completed = frame.clone();
+    for (pixel, mark) in frame.marks.iter().enumerate() {
+        if mark % 2 == 0 {
+            completed.colors[3 * pixel..3 * pixel + 3].fill_with(|| inputs.byte());
+        }
+        if mark % 4 < 2 {
+            completed.coverages[pixel] = inputs.below(8) as u8;
+        }
+    }
+    completed.marks.fill(3);
+    completed
 }
 
 /// Whether a draw goes over many triangles.
