@@ -1,0 +1,157 @@
+//! Rules changed on purpose, and whether two runs and the known frame (compare_known.rs) notice it. Two runs ask that unknown
+//! bytes do not show; only the known frame asks that what is handed out is true. The changed rules are those of frame.rs; the
+//! library is asked nothing.
+
+use oracle::compare_known::{known_frame, two_runs};
+use oracle::draws::{Frame, Read, Step};
+use oracle::frame::{self, Branches, Emitted, Pen, DOUBT, YES};
+use oracle::inputs::{Inputs, SEED};
+use oracle::library::RunAnswer;
+use oracle::lists::{Class, List};
+use oracle::sides::{on_frame, Answered, Side};
+
+/// As many must pass before an error counts as not noticed.
+const LISTS: u64 = 20_000;
+
+#[derive(Clone, Copy, PartialEq, Debug)]
+enum Fault {
+    /// F2 is left out: a pixel in doubt is stored with coverage 0.
+    DoubtStored,
+    /// An unmarked coverage is taken for 7, in F1, F3 and F5.
+    CoverageFull,
+    /// F1 is asked as if the memory's colour were marked, and F3 takes zeros for it.
+    ColorZeros,
+    /// F5 with cvg_dst 0 makes an unmarked coverage count - 1, and marked, under antialias, too.
+    CountMarked,
+    /// F5 marks an unmarked coverage and leaves its byte.
+    MarkAlone,
+    /// A word read passes an unmarked coverage as 0 instead of turning the read away.
+    ReadZero,
+    /// The same in runs of words alone, which two runs do not make.
+    RunZero,
+}
+
+/// Each fault, and whether two runs notice it. All but one work on what is known alone, so that unknown bytes do not show. The
+/// known frame notices every one.
+const FAULTS: [(Fault, bool); 7] = [
+    (Fault::DoubtStored, false),
+    (Fault::CoverageFull, false),
+    (Fault::ColorZeros, false),
+    (Fault::CountMarked, false),
+    (Fault::MarkAlone, true),
+    (Fault::ReadZero, false),
+    (Fault::RunZero, false),
+];
+
+/// The frame of frame.rs, with one of its rules changed or none.
+struct Planted(Option<Fault>);
+
+impl Planted {
+    fn has(&self, fault: Fault) -> bool {
+        self.0 == Some(fault)
+    }
+
+    /// F1 to F5 on one pixel, as `Pen::put` has them but for the fault.
+    fn put(&self, pen: &Pen, frame: &mut Frame, pixel: usize, emitted: &Emitted) {
+        let (memory, marked) = frame.known(pixel);
+        let coverage = if self.has(Fault::CoverageFull) { marked.or(Some(7)) } else { marked };
+        let yes = match pen.answer(emitted, coverage, memory.is_some() || self.has(Fault::ColorZeros)) {
+            DOUBT => self.has(Fault::DoubtStored),
+            answer => answer == YES,
+        };
+        if yes {
+            let stored = pen.stored(emitted, memory, coverage.unwrap_or(0));
+            frame.colors[3 * pixel..3 * pixel + 3].copy_from_slice(&stored);
+        }
+        let antialias = pen.mode.antialias && !self.has(Fault::CountMarked);
+        let mode = original::RenderMode { antialias, ..pen.mode };
+        let covered = match coverage {
+            Some(_) => frame::covered(pen.mode, emitted.count, coverage),
+            None => frame::covered(mode, emitted.count, None),
+        };
+        if let Some(covered) = covered.filter(|_| marked.is_some() || !self.has(Fault::MarkAlone)) {
+            frame.coverages[pixel] = covered;
+        }
+        frame.marks[pixel] = u8::from(yes) + 2 * u8::from(covered.is_some());
+    }
+}
+
+/// The frame with every unmarked coverage 0, and marked.
+fn zeroed(frame: &Frame) -> Frame {
+    let mut zeroed = frame.clone();
+    for (mark, coverage) in zeroed.marks.iter_mut().zip(&mut zeroed.coverages).filter(|(mark, _)| **mark < 2) {
+        (*mark, *coverage) = (*mark + 2, 0);
+    }
+    zeroed
+}
+
+impl Side for Planted {
+    fn call(&self, frame: &mut Frame, step: &Step) -> Answered {
+        if let (Step::Read(read), true) = (step, self.has(Fault::ReadZero)) {
+            let answer = frame::read_word(&zeroed(frame), read);
+            return (answer.number, answer.value.into());
+        }
+        on_frame(frame, step, |pen, frame, pixel, emitted| self.put(pen, frame, pixel, emitted))
+    }
+
+    fn run(&self, frame: &Frame, read: &Read, words: &mut [u8], numbers: &mut [u8]) -> RunAnswer {
+        if self.has(Fault::RunZero) {
+            return frame::read_words(&zeroed(frame), read, words, numbers);
+        }
+        frame::read_words(frame, read, words, numbers)
+    }
+}
+
+/// The number of the first list for which the check fails.
+fn noticed(check: impl Fn(&List, &mut Inputs) -> Result<(), String>) -> Option<u64> {
+    let mut inputs = Inputs::new(SEED);
+    (0..LISTS).find(|_| {
+        let list = List::at_random(&mut inputs, Class::Small);
+        check(&list, &mut inputs).is_err()
+    })
+}
+
+fn by_two_runs(fault: Option<Fault>) -> Option<u64> {
+    noticed(|list, inputs| two_runs(&Planted(fault), list, inputs).map(drop))
+}
+
+fn by_known_frame(fault: Option<Fault>) -> Option<u64> {
+    noticed(|list, inputs| known_frame(&Planted(fault), list, inputs))
+}
+
+#[test]
+fn what_two_runs_notice() {
+    assert_eq!(by_two_runs(None), None);
+    for (fault, expected) in FAULTS {
+        let list = by_two_runs(Some(fault));
+        assert_eq!(list.is_some(), expected, "{fault:?}: list {list:?}");
+    }
+}
+
+#[test]
+fn what_the_known_frame_notices() {
+    assert_eq!(by_known_frame(None), None);
+    for (fault, _) in FAULTS {
+        assert!(by_known_frame(Some(fault)).is_some(), "{fault:?}");
+    }
+}
+
+/// Without a fault the rules are those of `frame::draw`.
+#[test]
+fn nothing_else_is_changed() {
+    let same = noticed(|list, _| {
+        let (mut planted, mut plain) = (list.frame.clone(), list.frame.clone());
+        for step in &list.steps {
+            Planted(None).call(&mut planted, step);
+            if let Step::Draw(draw) = step {
+                frame::draw(&mut plain, draw, &mut Branches::default());
+            }
+        }
+        if planted == plain {
+            Ok(())
+        } else {
+            Err(String::new())
+        }
+    });
+    assert_eq!(same, None);
+}
