@@ -6,6 +6,7 @@ use crate::compare::{Line, Part};
 use crate::compare_known::{two_runs, Call, Held, KnownFrame};
 use crate::draws::{Frame, Step};
 use crate::frame::Branches;
+use crate::given_up::GivenUp;
 use crate::inputs::Inputs;
 use crate::lists::{is_long, Class, List};
 use crate::sides::{on_frame, place, Answered, Library, Ran, Side};
@@ -29,10 +30,22 @@ pub struct Counts {
     /// Accepted draws over the most triangles.
     long: u64,
     branches: Branches,
+    given_up: GivenUp,
     held: Held,
 }
 
+const SIDES: [&str; 2] = ["library", "Rust"];
+
 impl Counts {
+    /// The call on the original, with its pixels counted.
+    fn original(&mut self, frame: &mut Frame, step: &Step) -> Answered {
+        self.given_up.begin();
+        on_frame(frame, step, |pen, frame, pixel, emitted| {
+            self.given_up.count(pen, frame, pixel, emitted);
+            pen.put(frame, pixel, emitted, &mut self.branches);
+        })
+    }
+
     fn count(&mut self, step: &Step, (number, value): Answered) {
         match step {
             Step::Draw(draw) => {
@@ -52,10 +65,13 @@ fn check(list: &List, inputs: &mut Inputs, counts: &mut Counts) -> Result<(), St
     let mut known = KnownFrame::beside(&list.frame, inputs);
     for step in &list.steps {
         let before = library.clone();
-        let answers = [Library.call(&mut library, step), on_original(&mut original, step, &mut counts.branches)];
+        let answers = [Library.call(&mut library, step), counts.original(&mut original, step)];
+        let ran = Ran { step, before: [&before; 2], after: [&library, &original], answers };
         if answers[0] != answers[1] || library != original {
-            let ran = Ran { step, before: [&before; 2], after: [&library, &original], answers };
-            return Err(ran.difference("list", ["library", "Rust"], &place(&library, &original)));
+            return Err(ran.difference("list", SIDES, &place(&library, &original)));
+        }
+        if let Some(pixel) = &counts.given_up.wrong {
+            return Err(ran.difference("certain of those in doubt", SIDES, pixel));
         }
         counts.count(step, answers[1]);
         if let Some(known) = &mut known {
@@ -111,6 +127,7 @@ impl Sum for Counts {
             pixels: a.pixels + b.pixels,
             long: a.long + b.long,
             branches: both(a.branches, b.branches),
+            given_up: a.given_up.both(b.given_up),
             held: a.held + b.held,
         })
     }
@@ -144,6 +161,8 @@ impl Counts {
             ("F5, coverage marked", named(ways, destinations[1])),
             ("F5, coverage unmarked", named(ways, destinations[0])),
             ("F5, coverage unmarked", named(["became marked", "left"], [marked, left])),
+            ("given up, colours", self.given_up.color_counts()),
+            ("given up, coverages", named(["left unmarked", "certain of them"], self.given_up.coverages)),
             ("two runs", named(["lists", "calls"], [self.twins, self.twin_calls])),
             ("known frame", named(["lists", "calls", "words", "known colours", "known coverages"], held)),
         ]
