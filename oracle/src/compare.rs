@@ -39,6 +39,11 @@ impl Part {
     }
 }
 
+/// Counts by counts.
+pub fn added<const N: usize>(a: [u64; N], b: [u64; N]) -> [u64; N] {
+    std::array::from_fn(|i| a[i] + b[i])
+}
+
 /// A line to be printed: a call's name, and what was counted of it.
 pub type Line = (&'static str, Vec<(String, u64)>);
 

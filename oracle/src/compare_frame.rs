@@ -2,7 +2,7 @@
 //! three slices after each call. And the same lists on a frame that knows everything, and others on two frames that differ in
 //! unknown bytes (compare_known.rs).
 
-use crate::compare::{Line, Part};
+use crate::compare::{added, Line, Part};
 use crate::compare_known::{two_runs, Call, Held, KnownFrame};
 use crate::draws::{Frame, Step};
 use crate::frame::Branches;
@@ -71,7 +71,7 @@ fn check(list: &List, inputs: &mut Inputs, counts: &mut Counts) -> Result<(), St
             return Err(ran.difference("list", SIDES, &place(&library, &original)));
         }
         if let Some(pixel) = &counts.given_up.wrong {
-            return Err(ran.difference("certain of those in doubt", SIDES, pixel));
+            return Err(ran.difference("what is certain", SIDES, pixel));
         }
         counts.count(step, answers[1]);
         if let Some(known) = &mut known {
@@ -99,10 +99,6 @@ pub fn lists(part: &Part) -> Result<Counts, String> {
         }
     }
     Ok(counts)
-}
-
-fn added<const N: usize>(a: [u64; N], b: [u64; N]) -> [u64; N] {
-    std::array::from_fn(|i| a[i] + b[i])
 }
 
 fn both(a: Branches, b: Branches) -> Branches {
@@ -151,7 +147,7 @@ impl Counts {
         let Branches { colors, destinations, marked, left, memory_colors, divided } = self.branches;
         let Held { lists, calls, words, colors: known_colors, coverages } = self.held;
         let held = [lists, calls, words, known_colors, coverages];
-        vec![
+        let mut lines = vec![
             ("lists", named(["compared", "pixels", "draws of 4,096 triangles"], [self.lists, self.pixels, self.long])),
             ("draw", numbers(&self.draws, &[0, 1, 2, 3, 4, 5, 6, 7])),
             ("read_word", numbers(&self.reads, &[0, 1, 2, 3, 8, 9, 10])),
@@ -161,10 +157,10 @@ impl Counts {
             ("F5, coverage marked", named(ways, destinations[1])),
             ("F5, coverage unmarked", named(ways, destinations[0])),
             ("F5, coverage unmarked", named(["became marked", "left"], [marked, left])),
-            ("given up, colours", self.given_up.color_counts()),
-            ("given up, coverages", named(["left unmarked", "certain of them"], self.given_up.coverages)),
             ("two runs", named(["lists", "calls"], [self.twins, self.twin_calls])),
             ("known frame", named(["lists", "calls", "words", "known colours", "known coverages"], held)),
-        ]
+        ];
+        lines.extend(self.given_up.lines());
+        lines
     }
 }

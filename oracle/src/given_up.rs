@@ -1,23 +1,25 @@
 //! What F1, F2 and F5 give up: colours and coverages that they leave unknown although the original gives the same, whatever
 //! the unknown part of memory holds.
 
+use crate::compare::{added, Line};
 use crate::draws::Frame;
 use crate::frame::{covered, Emitted, Pen, DOUBT, YES};
 use original::writeback;
 use original::RenderMode;
 
 /// Why a pixel's colour is left unknown: F2, and the reasons of F1.
-pub const REASONS: [&str; 4] = ["in doubt", "no for P", "no for M", "no for the coverage"];
+const REASONS: [&str; 4] = ["given up in doubt", "given up for P", "given up for M", "given up for the coverage"];
 
-const CERTAIN: &str = "certain of them";
+/// What is counted of each reason.
+const COUNTS: [&str; 3] = ["colours", "certain of them", "with all samples and never blended"];
 
-/// How many were left unknown, and how many of them are certain.
+/// How many were left unknown, how many of them are certain, and how many of a colour's because the pixel is never blended.
 #[derive(Default)]
 pub struct GivenUp {
     /// By the number of the reason.
-    pub colors: [[u64; 2]; 4],
+    pub colors: [[u64; 3]; 4],
     pub coverages: [u64; 2],
-    /// The first pixel in doubt that is certain where it should not be, or the other way round.
+    /// The first pixel that is certain where it should not be, or the other way round.
     pub wrong: Option<String>,
     /// What was last asked of a draw, and whether it is certain.
     last: Option<(Asked, bool)>,
@@ -60,6 +62,12 @@ fn unblended(pen: &Pen, emitted: &Emitted, memory: Option<[u8; 3]>) -> bool {
     emitted.count == 8 || pen.stored(emitted, memory, 0) == pen.stored(emitted, memory, 7)
 }
 
+/// A pixel with all samples that is not forced is never blended, so that it is certain wherever P is known.
+fn never_blended(pen: &Pen, emitted: &Emitted, memory: Option<[u8; 3]>) -> bool {
+    let [p, ..] = pen.selectors();
+    emitted.count == 8 && !pen.mode.force_blend && (p != 1 || memory.is_some())
+}
+
 impl GivenUp {
     /// A draw begins.
     pub fn begin(&mut self) {
@@ -99,9 +107,10 @@ impl GivenUp {
             _ => 3,
         };
         let certain = self.certain(pen, emitted, memory, coverage);
-        self.colors[reason][0] += 1;
-        self.colors[reason][1] += u64::from(certain);
-        if answer == DOUBT && certain != unblended(pen, emitted, memory) {
+        let never = never_blended(pen, emitted, memory);
+        let counted = [1, u64::from(certain), u64::from(never)];
+        self.colors[reason] = std::array::from_fn(|i| self.colors[reason][i] + counted[i]);
+        if (answer == DOUBT && certain != unblended(pen, emitted, memory)) || (never && !certain) {
             let Emitted { count, rgba, shade_alpha } = emitted;
             let said = format!(
                 "pixel {pixel}, {count} samples, colour {rgba:?}, shade alpha {shade_alpha}; certain: {certain}"
@@ -111,18 +120,19 @@ impl GivenUp {
     }
 
     pub fn both(self, other: Self) -> Self {
-        let sum = |a: [u64; 2], b: [u64; 2]| [a[0] + b[0], a[1] + b[1]];
         GivenUp {
-            colors: std::array::from_fn(|reason| sum(self.colors[reason], other.colors[reason])),
-            coverages: sum(self.coverages, other.coverages),
+            colors: std::array::from_fn(|reason| added(self.colors[reason], other.colors[reason])),
+            coverages: added(self.coverages, other.coverages),
             wrong: self.wrong.or(other.wrong),
             last: None,
         }
     }
 
-    /// Each reason, and how many of it are certain.
-    pub fn color_counts(&self) -> Vec<(String, u64)> {
-        let pairs = REASONS.iter().zip(self.colors);
-        pairs.flat_map(|(reason, [came, certain])| [(reason.to_string(), came), (CERTAIN.into(), certain)]).collect()
+    pub fn lines(&self) -> Vec<Line> {
+        let counts = |counts: [u64; 3]| COUNTS.map(str::to_string).into_iter().zip(counts).collect();
+        let colors = REASONS.into_iter().zip(self.colors.map(counts));
+        let [left, certain] = self.coverages;
+        let coverages = vec![("coverages".to_string(), left), (COUNTS[1].to_string(), certain)];
+        colors.chain([("given up by F5", coverages)]).collect()
     }
 }
