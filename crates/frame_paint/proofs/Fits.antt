@@ -8,7 +8,8 @@ use Rattle.state.specs.declared.RenderMode.{RenderMode}
 use Rattle.combiner.specs.declared.Combiner.{Combiner}
 use Rattle.raster_edges.specs.Sample.{countOf}
 use Rattle.frame_pixel.specs.Rules.{pixelStep}
-use Rattle.frame_pixel.proofs.Alike.{mark-after, coverage-after}
+use Rattle.frame_pixel.proofs.Alike.{mark-after}
+use Rattle.frame_pixel.proofs.Knows.{coverage-after}
 use Rattle.raster_pixel.specs.Emitted.{Emit}
 use Rattle.raster_pixel.proofs.Placed.{Placed}
 use Rattle.frame.specs.Frame.{Frame, pixelAt}

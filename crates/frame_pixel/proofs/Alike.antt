@@ -1,28 +1,24 @@
 -- The rules read the mark byte, and a byte only where it is marked; an unmarked byte is at most kept. So two alike pixels are alike after a step. Mark 1 is
--- then as F1 and F2 say, the mark is not above the highest, and a known coverage keeps its three bits. What the rules are is looked at in the first part alone.
--- Assumes nothing.
+-- then as F1 and F2 say, and the mark is not above the highest. What the rules are is looked at in the first part alone. Assumes nothing.
 use Prim.Native.Nat.{ℕ, _≤_}
 use mathlib.Core.Path.{_≡_, refl, sym, ap, _∙_}
 use mathlib.Core.Bool.{Bool, true, false, cond, not, _&&_}
 use native.Mathlib.Omega.{arith}
-use lib.Dec.{eqb}
 use Rattle.state.specs.declared.RenderMode.{RenderMode}
 use Rattle.combiner.specs.declared.Combiner.{Combiner}
 use Rattle.blender.specs.declared.Coverage.{Coverage}
 use Rattle.blender.specs.declared.Coverage.the-variants.{Unknown, Known}
 use Rattle.blender.specs.declared.Source.{Source}
-use Rattle.blender.specs.Blend.{orZero}
-use Rattle.blender.proofs.Range.{destination-le}
 use Rattle.frame_pixel.specs.declared.Pixel.{Pixel}
 use Rattle.frame_pixel.specs.declared.Colors.{Colors}
 use Rattle.frame_pixel.specs.Marks.{highestMark, colorMarked, coverageMarked, coverageOf, unknown, markOf}
-use Rattle.frame_pixel.specs.Rules.{ruleF1, ruleF2, memoryOf, ruleF3, ruleF4, freshCoverage, ruleF5, coverageByte, coverageAt, knownAfter, colorsAfter, coverageAfter, assembled, pixelStep}
+use Rattle.frame_pixel.specs.Rules.{ruleF1, ruleF2, memoryOf, ruleF3, ruleF4, ruleF5, coverageByte, coverageAt, knownAfter, colorsAfter, coverageAfter, assembled, pixelStep}
 use Rattle.frame_pixel.specs.Alike.{AlikePixel}
 
 pub never : {A : Type 0} → false ≡ true → A
 never p = let z : _≡_ {A = ℕ} 0 1 = ap (λ (t : Bool). cond t 1 0) p in absurd (omega arith)
 
--- ---- the rules on two alike pixels, on a pixel whose colour is then not known, and the bound of a coverage
+-- ---- the rules on two alike pixels, and on a pixel whose colour is then not known
 
 -- what the rules are given of two alike pixels is the same
 coverage-same : (mark c d : ℕ) → (coverageMarked mark ≡ true → c ≡ d) → coverageOf mark c ≡ coverageOf mark d
@@ -70,24 +66,6 @@ module _ (mode : RenderMode) (k : Combiner) (s : Source) (x : Pixel) where
   colors-stay : knownAfter mode s x ≡ false → colorsAfter mode k s x ≡ ruleF4 x
   unfolding colorsAfter
   colors-stay h = λ i. cond (h i) (ruleF3 mode k s (coverageAt x) (memoryOf (colorMarked (x .mark)) x)) (ruleF4 x)
-
-fresh-le : (mode : RenderMode) (n : ℕ) → n ≤ 8 → orZero (freshCoverage mode n) ≤ 7
-unfolding freshCoverage
-fresh-le mode n h = go (eqb (mode .«cvg_dst») 2) (eqb (mode .«cvg_dst») 0 && not (mode .«force_blend») && not (mode .antialias)) _ _ (omega arith) (omega arith)
-  where
-    go : (a b : Bool) (c d : ℕ) → c ≤ 7 → d ≤ 7 → orZero (cond a (Known c) (cond b (Known d) Unknown)) ≤ 7
-    go true b c d p q = p
-    go false true c d p q = q
-    go false false c d p q = omega arith
-
-rule-le : (mode : RenderMode) (n : ℕ) (c : Coverage) → 1 ≤ n → n ≤ 8 → orZero c ≤ 7 → orZero (ruleF5 mode n c) ≤ 7
-unfolding ruleF5
-rule-le mode n Unknown p q h = fresh-le mode n q
-rule-le mode n (Known c) p q h = destination-le mode n c (p, q, h)
-
-coverage-low : (mode : RenderMode) (s : Source) (x : Pixel) → 1 ≤ s .count → s .count ≤ 8 → orZero (coverageAt x) ≤ 7 → orZero (coverageAfter mode s x) ≤ 7
-unfolding coverageAfter
-coverage-low mode s x p q h = rule-le mode (s .count) (coverageAt x) p q h
 
 -- ---- the mark byte that is stored says what it was made of
 color-of-mark : (yes : Bool) (c : Coverage) → colorMarked (markOf yes (not (unknown c))) ≡ yes
@@ -145,9 +123,6 @@ module _ (mode : RenderMode) (k : Combiner) (s : Source) (x : Pixel) where
   pub mark-after : pixelStep mode k s x .mark ≤ highestMark
   unfolding pixelStep assembled
   mark-after = mark-le (knownAfter mode s x) (coverageAfter mode s x)
-
-  pub coverage-after : 1 ≤ s .count → s .count ≤ 8 → orZero (coverageAt x) ≤ 7 → orZero (coverageAt (pixelStep mode k s x)) ≤ 7
-  coverage-after p q h = rw covered-after (coverage-low mode s x p q h)
 
   -- what is not known after it is as it was
   pub kept-colors :

@@ -1,9 +1,10 @@
 -- Knowing more never changes what was known: if pixel y knows at least what pixel x knows, then it does so after a step. A yes of F1 and F2 on x is a yes on y with
 -- the same three bytes, and a coverage that F5 knows on x it knows on y, and is the same. For every mode, combiner, source and count, and for any bytes. F2 is what the
 -- bytes need: where it has no doubt, the pixel is blended over every coverage that the memory may have, or over none. Assumes nothing.
-use Prim.Native.Nat.{ℕ, _-_}
+use Prim.Native.Nat.{ℕ, _-_, _≤_}
 use mathlib.Core.Path.{_≡_, refl, sym, ap, subst, _∙_}
 use mathlib.Core.Bool.{Bool, true, false, cond, not, _&&_, _||_}
+use native.Mathlib.Omega.{arith}
 use borrow.Author.Tests.{eqb-true, not-true}
 use lib.Dec.{eqb}
 use Rattle.state.specs.declared.RenderMode.{RenderMode}
@@ -17,6 +18,7 @@ use Rattle.blender.specs.Coverage.{overflow, blends, destinationOf}
 use Rattle.blender.specs.Known.{reject, alone}
 use Rattle.blender.specs.Blend.{orZero}
 use Rattle.blender.proofs.Knows.{Less, less-zero, known-more, known-all, blend-same}
+use Rattle.blender.proofs.Range.{destination-le}
 use Rattle.blender.proofs.Settled.{settled-full, settled-own}
 use Rattle.frame_pixel.specs.declared.Pixel.{Pixel}
 use Rattle.frame_pixel.specs.declared.Colors.{Colors}
@@ -34,6 +36,10 @@ less-of true true c d p q = subst (λ (k : ℕ). Less (Known c) (Known k)) (sym 
 of-less : (a b : Bool) (c d : ℕ) → Less (cond a (Known c) Unknown) (cond b (Known d) Unknown) → a ≡ true → (b ≡ true) × (d ≡ c)
 of-less false b c d l t = never t
 of-less true true c d Less.same t = (refl, refl)
+
+less-self : (c : Coverage) → Less c c
+less-self Unknown = Less.none
+less-self (Known c) = Less.same
 
 -- ---- F5
 rule-less : (mode : RenderMode) (n : ℕ) {c d : Coverage} → Less c d → Less (ruleF5 mode n c) (ruleF5 mode n d)
@@ -57,13 +63,18 @@ rule-less mode n (Less.none {d}) = go d
     full true e c = known 7 (settled-full mode n c (eqb-true k 2 e))
     full false e c = own (eqb k 0) (mode .«force_blend») (mode .antialias) refl refl refl c
 
-    self : (c : Coverage) → Less c c
-    self Unknown = Less.none
-    self (Known c) = Less.same
-
     go : (d : Coverage) → Less (freshCoverage mode n) (ruleF5 mode n d)
-    go Unknown = self (freshCoverage mode n)
+    go Unknown = less-self (freshCoverage mode n)
     go (Known c) = full (eqb k 2) refl c
+
+-- what F5 makes known is what `destination` answers over some coverage, and so has three bits
+rule-le : (mode : RenderMode) (n : ℕ) (c : Coverage) → 1 ≤ n → n ≤ 8 → orZero c ≤ 7 → orZero (ruleF5 mode n c) ≤ 7
+unfolding ruleF5
+rule-le mode n c p q h = go (rule-less mode n (less-zero (less-self c))) (destination-le mode n (orZero c) (p, q, h))
+  where
+    go : {a b : Coverage} → Less a b → orZero b ≤ 7 → orZero a ≤ 7
+    go Less.none l = omega arith
+    go Less.same l = l
 
 -- ---- F1 and F2
 doubt-less : (mode : RenderMode) (s : Source) {c d : Coverage} → Less c d → ruleF2 mode s c ≡ false → ruleF2 mode s d ≡ false
@@ -118,15 +129,8 @@ module _ (mode : RenderMode) (s : Source) (c : Coverage) (a : Bool) (yes-here : 
     unfolding ruleF1 ruleF3
     colors-too k {m} {m′} e =
         ap (λ (v : Bytes). record { red = v .r; green = v .g; blue = v .b })
-        (blend-same mode k (s .color) (s .«shade_alpha») (s .count) c a m′ m (orZero d) (orZero c) said e (less-zero l) (less-zero self)
-        (sure-alone mode s (s .count) sure (less-zero l) (less-zero self)))
-      where
-        self : Less c c
-        self = go c
-          where
-            go : (c : Coverage) → Less c c
-            go Unknown = Less.none
-            go (Known c) = Less.same
+        (blend-same mode k (s .color) (s .«shade_alpha») (s .count) c a m′ m (orZero d) (orZero c) said e (less-zero l) (less-zero (less-self c))
+        (sure-alone mode s (s .count) sure (less-zero l) (less-zero (less-self c))))
 
 -- ---- a step
 -- the memory's colour, where it is known
@@ -184,6 +188,13 @@ module _ (mode : RenderMode) (k : Combiner) (s : Source) (y x : Pixel) (h : Know
       coverage =
           of-less (coverageMarked (x-after .mark)) (coverageMarked (y-after .mark)) (x-after .coverage) (y-after .coverage)
           (rw (covered-after mode k s x, covered-after mode k s y) coverage-too)
+
+-- a known coverage keeps its three bits
+pub coverage-after :
+    (mode : RenderMode) (k : Combiner) (s : Source) (x : Pixel) → 1 ≤ s .count → s .count ≤ 8 → orZero (coverageAt x) ≤ 7
+    → orZero (coverageAt (pixelStep mode k s x)) ≤ 7
+unfolding coverageAfter
+coverage-after mode k s x p q h = rw (covered-after mode k s x) (rule-le mode (s .count) (coverageAt x) p q h)
 
 -- ---- a pixel of which everything is known
 -- its coverage
