@@ -9,6 +9,7 @@ use lib.Dec.{eqb}
 use lib.IntN.{pos}
 use lib.Ieee.{Float, binary32, ofInt, sub, div}
 use Rattle.num_float.specs.Color.{f0, f1}
+use Rattle.num_float.specs.Whole.{byteOf}
 use Rattle.state.specs.declared.RenderMode.{RenderMode}
 use Rattle.state.specs.declared.Rgba.{Rgba}
 use Rattle.combiner.specs.declared.Combiner.{Combiner}
@@ -19,7 +20,7 @@ use Rattle.blender.specs.Mux.{muxOf}
 use Rattle.blender.specs.Coverage.{overflow, overflows, blends}
 use Rattle.blender.specs.Known.{reject, alone, missing, anyCoverage, whereUnknown, colorKnown}
 use Rattle.blender.specs.Blend.{f8, sourceOf, factorA, factorB, mixedOf, bytesOf, blendOf, orZero}
-use Rattle.blender.proofs.Solid.{never}
+use Rattle.blender.proofs.Tests.{never}
 
 -- ---- coverages: nothing is known of the first, or the same of both
 pub data Less : Coverage → Coverage → Type 0 where
@@ -221,3 +222,13 @@ alone-blend-same mode k color shade n a memory memory′ i j there h here too =
   where
     x : Mux
     x = muxOf (mode .«blender_mux»)
+
+-- and where P is the memory's colour, they are that colour's
+pub alone-blend-memory :
+    (mode : RenderMode) (k : Combiner) (color : Rgba) (shade : Float) (n : ℕ) (memory : Rgba) (i : ℕ)
+    → muxOf (mode .«blender_mux») .p ≡ 1 → alone mode (color .a) n (Known i) ≡ true → blendOf mode k color memory shade n i .r ≡ byteOf (memory .r)
+unfolding blendOf bytesOf mixedOf
+alone-blend-memory mode k color shade n memory i e stands =
+    let x = muxOf (mode .«blender_mux») in
+    let a = factorA (x .a) (color .a) (k .fog .a) shade in
+    λ t. byteOf (mixedOf (stands t) (mode .«force_blend») (sourceOf (e t) k color memory .r) a (sourceOf (x .m) k color memory .r) (factorB (x .b) a i))

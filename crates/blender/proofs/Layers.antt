@@ -3,7 +3,7 @@
 use mathlib.Core.Path.{_≡_, refl, sym, _∙_}
 use Prim.Native.Nat.{ℕ}
 use mathlib.Core.Bool.{Bool, true, false, cond, not, _&&_, _||_}
-use borrow.Author.Tests.{eqb-true}
+use borrow.Author.Tests.{eqb-true, not-true}
 use lib.Dec.{eqb}
 use lib.IntN.{pos}
 use lib.Ieee.{Float, binary32, ofInt, add, sub, mul, div}
@@ -19,21 +19,9 @@ use Rattle.blender.specs.Coverage.{overflows, blends}
 use Rattle.blender.specs.Known.{reject, alone, missing, anyCoverage, whereUnknown, colorKnown}
 use Rattle.blender.specs.Layer.{opaqueOf, ownOf, layeredOf, steadyOf, layerOf}
 use Rattle.blender.specs.Blend.{f8, sourceOf, factorA, factorB, mixedOf, bytesOf, blendOf}
-use Rattle.blender.proofs.Solid.{never, own-source}
+use Rattle.blender.proofs.Tests.{never, both-left, both-right}
+use Rattle.blender.proofs.Solid.{own-source}
 use Rattle.blender.proofs.Knows.{full-alone}
-
--- ---- the parts of a conjunction
-fst : (a b : Bool) → (a && b) ≡ true → a ≡ true
-fst true b h = refl
-fst false b h = never h
-
-snd : (a b : Bool) → (a && b) ≡ true → b ≡ true
-snd true b h = h
-snd false b h = never h
-
-off : (a : Bool) → not a ≡ true → a ≡ false
-off true h = never h
-off false h = refl
 
 -- ---- the shade's alpha
 unshaded : (k : ℕ) (alpha fog s t : Float) → eqb k 2 ≡ false → factorA k alpha fog s ≡ factorA k alpha fog t
@@ -70,17 +58,17 @@ layered mode alpha h =
     let a = not (eqb (x .a) 2) in
     let b = not (eqb (x .b) 1) in
     let r = not (reject mode alpha) in
-    let h5 = fst (f && p && m && a && b) r h in
-    let h4 = fst (f && p && m && a) b h5 in
-    let h3 = fst (f && p && m) a h4 in
-    let h2 = fst (f && p) m h3 in
+    let h5 = both-left (f && p && m && a && b) r h in
+    let h4 = both-left (f && p && m && a) b h5 in
+    let h3 = both-left (f && p && m) a h4 in
+    let h2 = both-left (f && p) m h3 in
     record {
-      forced = fst f p h2;
-      own = off (eqb (x .p) 1) (snd f p h2);
-      memory = snd (f && p) m h3;
-      shade = off (eqb (x .a) 2) (snd (f && p && m) a h4);
-      coverage = off (eqb (x .b) 1) (snd (f && p && m && a) b h5);
-      shared = off (reject mode alpha) (snd (f && p && m && a && b) r h);
+      forced = both-left f p h2;
+      own = not-true (eqb (x .p) 1) (both-right f p h2);
+      memory = both-right (f && p) m h3;
+      shade = not-true (eqb (x .a) 2) (both-right (f && p && m) a h4);
+      coverage = not-true (eqb (x .b) 1) (both-right (f && p && m && a) b h5);
+      shared = not-true (reject mode alpha) (both-right (f && p && m && a && b) r h);
     }
 
 module _ {mode : RenderMode} {alpha : Float} (o : Layered mode alpha) where
@@ -146,8 +134,8 @@ steady mode h =
     let f = not (mode .«force_blend») in
     let p = not (eqb (x .p) 1) in
     let a = not (eqb (x .a) 2) in
-    let h2 = fst (f && p) a h in
-    record { free = off (mode .«force_blend») (fst f p h2); own = off (eqb (x .p) 1) (snd f p h2); shade = off (eqb (x .a) 2) (snd (f && p) a h) }
+    let h2 = both-left (f && p) a h in
+    record { free = not-true (mode .«force_blend») (both-left f p h2); own = not-true (eqb (x .p) 1) (both-right f p h2); shade = not-true (eqb (x .a) 2) (both-right (f && p) a h) }
 
 module _ {mode : RenderMode} (o : Steady mode) (alpha : Float) where
   -- a full pixel stands alone over a known coverage

@@ -1,4 +1,5 @@
 -- What several proofs of `blender` share, and the laws that callers cite.
+pub mod Tests
 pub mod Picked
 pub mod Range
 pub mod Solid

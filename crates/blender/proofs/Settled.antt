@@ -12,7 +12,7 @@ use Rattle.blender.specs.declared.Coverage.the-variants.{Known}
 use Rattle.blender.specs.Mux.{pick}
 use Rattle.blender.specs.Coverage.{overflow, blends, clampOf, destinationOf}
 use Rattle.blender.specs.Settled.{settled}
-use Rattle.blender.proofs.Solid.{never}
+use Rattle.blender.proofs.Tests.{never}
 
 -- seven or eight samples
 seven : (n : ℕ) (f : Bool) → (eqb n 8 || (f && eqb n 7)) ≡ true → 7 ≤ n
@@ -67,24 +67,6 @@ module _ (mode : RenderMode) (n : ℕ) where
       go false e true z t =
           ap (λ (j : ℕ). at j c) (eqb-true k 0 z) ∙ clamped f a t c ∙ sym (clamped f a t 0) ∙ sym (ap (λ (j : ℕ). at j 0) (eqb-true k 0 z))
       go false e false z t = never t
-
-  -- a pixel that may be blended is then full
-  pub settled-seven :
-      mode .«cvg_dst» ≡ 0 → (mode .«force_blend» || mode .antialias) ≡ true → (eqb n 8 || (mode .«force_blend» && eqb n 7)) ≡ true → (c : ℕ)
-      → destinationOf mode n c ≡ 7
-  unfolding destinationOf blends clampOf
-  settled-seven e b t c =
-      ap (λ (j : ℕ). pick j (clamp f a c) ((n + c) % 8) 7 c) e ∙ clamped f a (either (not f && not a) t) c ∙ (λ i. cond (b i) 7 (n - 1))
-    where
-      f : Bool
-      f = mode .«force_blend»
-
-      a : Bool
-      a = mode .antialias
-
-      either : (p : Bool) {q : Bool} → q ≡ true → (p || q) ≡ true
-      either true t = refl
-      either false t = t
 
   -- asked of coverages 0 and 7
   asked : (f a : Bool) → 1 ≤ n → n ≤ 8 → clamp f a 7 ≡ clamp f a 0 → ((not f && not a) || (eqb n 8 || (f && eqb n 7))) ≡ true

@@ -2,7 +2,6 @@
 use mathlib.Core.Path.{_≡_, refl, sym, ap, _∙_}
 use Prim.Native.Nat.{ℕ}
 use mathlib.Core.Bool.{Bool, true, false, cond, not, _&&_, _||_}
-use native.Mathlib.Omega.{arith}
 use lib.Dec.{eqb}
 use lib.Ieee.{Float}
 use Rattle.num_float.specs.Whole.{byteOf}
@@ -16,9 +15,7 @@ use Rattle.blender.specs.Coverage.{overflows, blends}
 use Rattle.blender.specs.Known.{reject, alone, missing, anyCoverage, whereUnknown, colorKnown}
 use Rattle.blender.specs.Layer.{opaqueOf, ownOf}
 use Rattle.blender.specs.Blend.{sourceOf, factorA, factorB, mixedOf, bytesOf, blendOf}
-
-pub never : {A : Type 0} → false ≡ true → A
-never p = let z : _≡_ {A = ℕ} 0 1 = ap (λ (t : Bool). cond t 1 0) p in absurd (omega arith)
+use Rattle.blender.proofs.Tests.{never}
 
 -- what is said of a pixel that is opaque
 pub record Opaque (mode : RenderMode) (alpha : Float) : Type 0 where

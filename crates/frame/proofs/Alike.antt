@@ -21,11 +21,11 @@ use Rattle.frame.proofs.Knows.{put-knows}
 alike-knows : {x y : Pixel} → AlikePixel x y → KnowsPixel y x
 alike-knows h =
     record {
-      marked = λ t. sym (ap colorMarked (h .mark)) ∙ t;
+      mark1 = λ t. sym (ap colorMarked (h .mark)) ∙ t;
       red = λ t. sym (h .red t);
       green = λ t. sym (h .green t);
       blue = λ t. sym (h .blue t);
-      covered = λ t. sym (ap coverageMarked (h .mark)) ∙ t;
+      mark2 = λ t. sym (ap coverageMarked (h .mark)) ∙ t;
       coverage = λ t. sym (h .coverage t);
     }
 

@@ -12,19 +12,11 @@ use lib.ListN.{length, getD, set, length-set}
 use Rattle.frame_pixel.specs.declared.Pixel.{Pixel}
 use Rattle.frame_pixel.specs.Marks.{highestMark, coverageMarked, coverageOf}
 use Rattle.blender.specs.Blend.{orZero}
-use Rattle.frame_pixel.proofs.Alike.{never}
+use Rattle.blender.proofs.Tests.{both-left, both-right}
 use Rattle.blender.specs.declared.Coverage.the-variants.{Unknown, Known}
 use Rattle.frame.specs.Frame.{Frame, putPixel}
 use Rattle.frame.specs.Fits.{Fit}
 use Rattle.frame.specs.Checks.{sizeOk, sizesOk, lengthsOk, markOk, marksOk, frameRefusal}
-
-pub both-left : (a b : Bool) → (a && b) ≡ true → a ≡ true
-both-left true b p = refl
-both-left false b p = p
-
-pub both-right : (a b : Bool) → (a && b) ≡ true → b ≡ true
-both-right true b p = p
-both-right false b p = never p
 
 -- ---- number 3 at one pixel: what it asks, taken apart and put together
 module _ (m c : ℕ) where

@@ -13,7 +13,7 @@ use lib.Seq.{getD-set-same, getD-set-other}
 use Rattle.frame_pixel.specs.declared.Pixel.{Pixel}
 use Rattle.frame_pixel.specs.Marks.{colorMarked, coverageMarked}
 use Rattle.frame_pixel.specs.Knows.{KnowsPixel, AllKnownPixel}
-use Rattle.frame_pixel.proofs.Alike.{never}
+use Rattle.blender.proofs.Tests.{never}
 use Rattle.frame.specs.Frame.{Frame, pixelAt, putPixel}
 use Rattle.frame.specs.Knows.{KnowsFrame, AllKnown}
 
@@ -102,11 +102,11 @@ module _ (g f : Frame) (p : ℕ) (y x : Pixel) (h : KnowsFrame g f) (c : KnowsPi
   here : KnowsPixel (pixelAt (putPixel g p y) p) (pixelAt (putPixel f p x) p)
   here =
       record {
-        marked = λ t. read-more colorMarked refl (f .marks) (g .marks) p (x .mark) (y .mark) (h .marks) (c .marked) t;
+        mark1 = λ t. read-more colorMarked refl (f .marks) (g .marks) p (x .mark) (y .mark) (h .marks) (c .mark1) t;
         red = λ t. red-back (c .red (was-marked t));
         green = λ t. green-back (c .green (was-marked t));
         blue = λ t. blue-back (c .blue (was-marked t));
-        covered = λ t. read-more coverageMarked refl (f .marks) (g .marks) p (x .mark) (y .mark) (h .marks) (c .covered) t;
+        mark2 = λ t. read-more coverageMarked refl (f .marks) (g .marks) p (x .mark) (y .mark) (h .marks) (c .mark2) t;
         coverage = λ t. rw (c .coverage (was-covered t)) (same-back (g .coverages) (f .coverages) p (x .coverage) (h .coverages));
       }
 
@@ -132,7 +132,7 @@ put-all-known f p x h a = record { pixels = λ (q : ℕ) (l : q < length (set (f
         let j : p < length (f .marks) = omega arith in
         subst (λ (r : ℕ). AllKnownPixel (pixelAt (putPixel f p x) r)) (sym e)
         (record {
-          marked = ap colorMarked (getD-set-same (f .marks) p (x .mark) 0 j) ∙ h j .marked;
-          covered = ap coverageMarked (getD-set-same (f .marks) p (x .mark) 0 j) ∙ h j .covered;
+          mark1 = ap colorMarked (getD-set-same (f .marks) p (x .mark) 0 j) ∙ h j .mark1;
+          mark2 = ap coverageMarked (getD-set-same (f .marks) p (x .mark) 0 j) ∙ h j .mark2;
         })
     at q (no n) l = rw (other f p q x n) (a .pixels q l)

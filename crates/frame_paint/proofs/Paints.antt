@@ -16,21 +16,19 @@ use Rattle.combiner_resolved.proofs.Flat.{flat-color}
 use Rattle.blender.specs.declared.Mux.{Mux}
 use Rattle.blender.specs.Mux.{muxOf}
 use Rattle.blender.specs.Blend.{sourceOf}
-use Rattle.blender.specs.Layer.{ownOf, steadyOf, opaqueOf}
+use Rattle.blender.specs.Layer.{ownOf, steadyOf}
 use Rattle.blender.proofs.Solid.{opaque}
 use Rattle.blender.proofs.Layers.{layered, steady}
 use Rattle.frame_pixel.specs.declared.Pixel.{Pixel}
-use Rattle.frame_pixel.specs.declared.Colors.{Colors}
 use Rattle.frame_pixel.specs.declared.full.Full.{Full}
 use Rattle.frame_pixel.specs.Rules.{pixelStep}
 use Rattle.frame_pixel.specs.Coloring.{colorsOf, ownColors}
 use Rattle.frame_pixel.specs.Full.{FullOf}
-use Rattle.frame_pixel.proofs.Alike.{never}
+use Rattle.blender.proofs.Tests.{never, both-left, both-right}
 use Rattle.frame_pixel.proofs.Colorings.{opaque-step, unshaded-step}
 use Rattle.raster_edges.specs.Sample.{countOf}
 use Rattle.raster_pixel.specs.Emitted.{Emit}
 use Rattle.frame.specs.Frame.{Frame, pixelAt, putPixel}
-use Rattle.frame.proofs.Fits.{both-left, both-right}
 use Rattle.frame_paint.specs.declared.prepare.Paint.{Paint}
 use Rattle.frame_paint.specs.Steps.{stepFrame}
 use Rattle.frame_paint.specs.Pixel.{Drew, emitOf}

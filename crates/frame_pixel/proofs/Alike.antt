@@ -9,14 +9,12 @@ use Rattle.combiner.specs.declared.Combiner.{Combiner}
 use Rattle.blender.specs.declared.Coverage.{Coverage}
 use Rattle.blender.specs.declared.Coverage.the-variants.{Unknown, Known}
 use Rattle.blender.specs.declared.Source.{Source}
+use Rattle.blender.proofs.Tests.{never}
 use Rattle.frame_pixel.specs.declared.Pixel.{Pixel}
 use Rattle.frame_pixel.specs.declared.Colors.{Colors}
 use Rattle.frame_pixel.specs.Marks.{highestMark, colorMarked, coverageMarked, coverageOf, unknown, markOf}
 use Rattle.frame_pixel.specs.Rules.{ruleF1, ruleF2, memoryOf, ruleF3, ruleF4, ruleF5, coverageByte, coverageAt, knownAfter, colorsAfter, coverageAfter, assembled, pixelStep}
 use Rattle.frame_pixel.specs.Alike.{AlikePixel}
-
-pub never : {A : Type 0} → false ≡ true → A
-never p = let z : _≡_ {A = ℕ} 0 1 = ap (λ (t : Bool). cond t 1 0) p in absurd (omega arith)
 
 -- ---- the rules on two alike pixels, and on a pixel whose colour is then not known
 

@@ -1,11 +1,13 @@
--- What is known is certain, and how much that is certain is left unknown: of coverages and of colours in doubt exactly. Of a colour to which F1 says no it is not said;
--- the comparison with the Rust counts it. Assumes nothing.
-use Prim.Native.Nat.{ℕ, _+_, _-_, _≤_}
+-- What is known is certain, and how much that is certain is left unknown: of coverages and of colours in doubt exactly, and of pixels with all eight samples that are
+-- not forced. Of other colours to which F1 says no it is not said; the comparison with the Rust counts them. Assumes nothing.
+use Prim.Native.Nat.{ℕ, _+_, _≤_}
 use mathlib.Core.Path.{_≡_, refl, sym, ap, subst, _∙_}
-use mathlib.Core.Bool.{Bool, true, false, cond, not, _&&_, _||_}
+use mathlib.Core.Bool.{Bool, true, false, cond, not, _&&_}
 use native.Mathlib.Omega.{arith}
-use borrow.Author.Tests.{eqb-true, leb-false, le-leb, lt-leb}
+use borrow.Author.Tests.{eqb-true, not-true, leb-false, le-leb, lt-leb}
 use lib.Dec.{eqb}
+use lib.Ieee.{lt, mul, div, ofInt}
+use Rattle.num_float.specs.Whole.{byteOf}
 use Rattle.state.specs.declared.RenderMode.{RenderMode}
 use Rattle.combiner.specs.declared.Combiner.{Combiner}
 use Rattle.blender.specs.declared.Bytes.{Bytes}
@@ -14,17 +16,18 @@ use Rattle.blender.specs.declared.Coverage.the-variants.{Unknown, Known}
 use Rattle.blender.specs.declared.Source.{Source}
 use Rattle.blender.specs.Mux.{muxOf}
 use Rattle.blender.specs.Coverage.{overflow, destinationOf}
-use Rattle.blender.specs.Known.{missing}
+use Rattle.blender.specs.Known.{reject, missing}
+use Rattle.blender.specs.Blend.{orZero}
 use Rattle.blender.specs.Settled.{settled}
-use Rattle.blender.proofs.Knows.{Less, alone-same, blend-same, full-alone, alone-blend-same}
-use Rattle.blender.proofs.Settled.{same-settled, settled-seven}
+use Rattle.blender.proofs.Knows.{Less, alone-same, blend-same, full-alone, alone-blend-same, alone-blend-memory}
+use Rattle.blender.proofs.Settled.{settled-same, same-settled}
 use Rattle.frame_pixel.specs.declared.Pixel.{Pixel}
 use Rattle.frame_pixel.specs.declared.Colors.{Colors}
 use Rattle.frame_pixel.specs.Marks.{colorMarked, coverageMarked, unknown}
-use Rattle.frame_pixel.specs.Rules.{ruleF1, ruleF2, memoryOf, ruleF3, ruleF4, freshCoverage, ruleF5, coverageAt, knownAfter, colorsAfter, coverageAfter}
+use Rattle.frame_pixel.specs.Rules.{ruleF1, ruleF2, unit, memoryOf, ruleF3, freshCoverage, ruleF5, coverageAt, knownAfter, colorsAfter, coverageAfter}
 use Rattle.frame_pixel.specs.Certain.{Completes, CertainColors, CertainCoverage, coverageGivenUp, colorsOver, SameAtEnds}
-use Rattle.frame_pixel.proofs.Alike.{never}
-use Rattle.frame_pixel.proofs.Knows.{memory-too, same-colors, coverage-too, all-covered, all-known}
+use Rattle.blender.proofs.Tests.{never, both-left, both-right}
+use Rattle.frame_pixel.proofs.Knows.{memory-too, same-colors, coverage-too, all-covered, all-colors}
 
 -- ---- what is known is certain
 module _ (mode : RenderMode) (k : Combiner) (s : Source) (x : Pixel) where
@@ -53,18 +56,22 @@ module _ (x : Pixel) (u : coverageAt x ≡ Unknown) where
   completes c l =
       record {
         knows = record {
-          marked = λ t. refl;
+          mark1 = λ t. refl;
           red = λ t. refl;
           green = λ t. refl;
           blue = λ t. refl;
-          covered = λ t. refl;
+          mark2 = λ t. refl;
           coverage = λ t. never (sym unmarked ∙ t);
         };
-        all = record { marked = refl; covered = refl };
+        all = record { mark1 = refl; mark2 = refl };
         low = l;
       }
 
 -- ---- a coverage
+is-unknown : (c : Coverage) → unknown c ≡ true → c ≡ Unknown
+is-unknown Unknown t = refl
+is-unknown (Known c) t = never t
+
 number : {c d : ℕ} → Known c ≡ Known d → c ≡ d
 number e = ap value e
   where
@@ -87,54 +94,24 @@ module _ (mode : RenderMode) (s : Source) (x : Pixel) where
   unfolding ruleF5
   fresh-left c u e = sym (ap (ruleF5 mode (s .count)) u) ∙ e
 
-  -- where it is given up it is certain, and is 7
-  pub given-up-certain : coverageAt x ≡ Unknown → coverageGivenUp mode (s .count) ≡ true → (coverageAfter mode s x ≡ Unknown) × CertainCoverage mode s x 7
-  unfolding coverageGivenUp coverageAfter ruleF5 freshCoverage
-  given-up-certain u t = (ap (ruleF5 mode n) u ∙ left, λ y q. coverage-of y q ∙ ap Known (settled-seven mode n is-zero blended enough (y .coverage)))
-    where
-      n : ℕ
-      n = s .count
+  -- where it is given up it is certain
+  pub given-up-certain :
+      coverageAt x ≡ Unknown → coverageGivenUp mode (s .count) ≡ true
+      → (coverageAfter mode s x ≡ Unknown) × CertainCoverage mode s x (destinationOf mode (s .count) 0)
+  unfolding coverageGivenUp coverageAfter ruleF5
+  given-up-certain u t =
+      let n = s .count in
+      let one = settled mode n in
+      let left = unknown (freshCoverage mode n) in (
+        ap (ruleF5 mode n) u ∙ is-unknown (freshCoverage mode n) (both-right one left t),
+        λ y q. coverage-of y q ∙ ap Known (settled-same mode n (both-left one left t) (y .coverage)),
+      )
 
-      f : Bool
-      f = mode .«force_blend»
-
-      a : Bool
-      a = mode .antialias
-
-      go : (z b e : Bool) → (z && b && e) ≡ true → (z ≡ true) × (b ≡ true) × (e ≡ true)
-      go true true true t = (refl, refl, refl)
-      go true true false t = never t
-      go true false e t = never t
-      go false b e t = never t
-
-      parts : (eqb (mode .«cvg_dst») 0 ≡ true) × ((f || a) ≡ true) × ((eqb n 8 || (f && eqb n 7)) ≡ true)
-      parts = go (eqb (mode .«cvg_dst») 0) (f || a) (eqb n 8 || (f && eqb n 7)) t
-
-      is-zero : mode .«cvg_dst» ≡ 0
-      is-zero = eqb-true (mode .«cvg_dst») 0 (parts .0)
-
-      blended : (f || a) ≡ true
-      blended = parts .1
-
-      enough : (eqb n 8 || (f && eqb n 7)) ≡ true
-      enough = parts .2
-
-      neither : (f a : Bool) → (f || a) ≡ true → (true && not f && not a) ≡ false
-      neither true a t = refl
-      neither false true t = refl
-      neither false false t = never t
-
-      left : freshCoverage mode n ≡ Unknown
-      left =
-          ap (λ (j : ℕ). cond (eqb j 2) (Known 7) (cond (eqb j 0 && not f && not a) (Known (n - 1)) Unknown)) is-zero
-          ∙ (λ i. cond (neither f a blended i) (Known (n - 1)) Unknown)
-
-  -- and a certain coverage that F5 leaves unknown is one of these
+  -- and a certain coverage that F5 leaves unknown is given up
   pub certain-given-up :
       1 ≤ s .count → s .count ≤ 8 → coverageAfter mode s x ≡ Unknown → (v : ℕ) → CertainCoverage mode s x v → coverageGivenUp mode (s .count) ≡ true
-  unfolding coverageGivenUp settled freshCoverage coverageAfter
-  certain-given-up p q left v certain =
-      go (eqb (mode .«cvg_dst») 2) (eqb (mode .«cvg_dst») 0) (mode .«force_blend») (mode .antialias) (eqb n 8) (eqb n 7) fresh (same-settled mode n p q same)
+  unfolding coverageGivenUp coverageAfter
+  certain-given-up p q left v certain = λ i. same-settled mode n p q (at 7 (omega arith) ∙ sym (at 0 (omega arith))) i && unknown (fresh-left (coverageAt x) u left i)
     where
       n : ℕ
       n = s .count
@@ -142,24 +119,8 @@ module _ (mode : RenderMode) (s : Source) (x : Pixel) where
       u : coverageAt x ≡ Unknown
       u = was-unknown (coverageAt x) left
 
-      fresh : freshCoverage mode n ≡ Unknown
-      fresh = fresh-left (coverageAt x) u left
-
       at : (c : ℕ) → c ≤ 7 → destinationOf mode n c ≡ v
       at c l = number (sym (coverage-of (withCoverage x u c) (completes x u c l)) ∙ certain (withCoverage x u c) (completes x u c l))
-
-      same : destinationOf mode n 7 ≡ destinationOf mode n 0
-      same = at 7 (omega arith) ∙ sym (at 0 (omega arith))
-
-      go :
-          (two z f a eight seven : Bool) → cond two (Known 7) (cond (z && not f && not a) (Known (n - 1)) Unknown) ≡ Unknown
-          → (two || (z && ((not f && not a) || (eight || (f && seven))))) ≡ true
-          → (z && (f || a) && (eight || (f && seven))) ≡ true
-      go true z f a eight seven e t = never (ap (λ (c : Coverage). unknown c) e)
-      go false false f a eight seven e t = t
-      go false true true a eight seven e t = t
-      go false true false true eight seven e t = t
-      go false true false false eight seven e t = never (ap (λ (c : Coverage). unknown c) e)
 
 -- ---- a colour in doubt: F1 says yes, and F2 turns that down. It turns on the coverage only by whether the pixel is blended
 module _ (mode : RenderMode) (k : Combiner) (s : Source) (x : Pixel)
@@ -175,10 +136,9 @@ module _ (mode : RenderMode) (k : Combiner) (s : Source) (x : Pixel)
   -- what x may really be has one of the coverages 0 to 7, and its colour where that is known
   colors-really :
       (y : Pixel) → Completes y x → (c : ℕ) → overflow (s .count) (y .coverage) ≡ overflow (s .count) c → colorsAfter mode k s y ≡ colorsOver mode k s x c
-  unfolding colorsAfter ruleF1 ruleF3
+  unfolding ruleF1 ruleF3
   colors-really y q c e =
-      (λ i. cond (all-known mode k s y (q .all) i) (ruleF3 mode k s (coverageAt y) (memoryOf (colorMarked (y .mark)) y)) (ruleF4 y))
-      ∙ (λ i. ruleF3 mode k s (all-covered y (q .all) i) (memoryOf (colorMarked (y .mark)) y))
+      all-colors mode k s y (q .all)
       ∙ ap (λ (v : Bytes). record { red = v .r; green = v .g; blue = v .b })
       (blend-same mode k (s .color) (s .«shade_alpha») (s .count) (coverageAt x) (colorMarked (x .mark))
       (memoryOf (colorMarked (y .mark)) y) (memoryOf (colorMarked (x .mark)) x) (y .coverage) c said (memory-too y x (q .knows))
@@ -208,16 +168,84 @@ module _ (mode : RenderMode) (k : Combiner) (s : Source) (x : Pixel)
           let l = leb-false 8 (n + y .coverage) e in
           colors-really y q 0 (e ∙ sym (lt-leb 8 (n + 0) (omega arith))) ∙ same .0
 
--- ---- a colour to which F1 says no for M or for the coverage, of a pixel with all eight samples that is not forced: it is never blended, so that it is certain wherever P
--- is known
+-- ---- a pixel with all eight samples that is not forced: it is never blended, so that it is P's colour, certain wherever P is known
 pub full-certain :
     (mode : RenderMode) (k : Combiner) (s : Source) (x : Pixel) → mode .«force_blend» ≡ false → s .count ≡ 8
     → missing (muxOf (mode .«blender_mux») .p) (colorMarked (x .mark)) ≡ false → CertainColors mode k s x (colorsOver mode k s x 7)
-unfolding colorsAfter ruleF3
+unfolding ruleF3
 full-certain mode k s x forced eight there y q =
-    (λ i. cond (all-known mode k s y (q .all) i) (ruleF3 mode k s (coverageAt y) (memoryOf (colorMarked (y .mark)) y)) (ruleF4 y))
-    ∙ (λ i. ruleF3 mode k s (all-covered y (q .all) i) (memoryOf (colorMarked (y .mark)) y))
+    all-colors mode k s y (q .all)
     ∙ ap (λ (v : Bytes). record { red = v .r; green = v .g; blue = v .b })
     (alone-blend-same mode k (s .color) (s .«shade_alpha») (s .count) (colorMarked (x .mark))
     (memoryOf (colorMarked (y .mark)) y) (memoryOf (colorMarked (x .mark)) x) (y .coverage) 7 there (memory-too y x (q .knows))
     (full-alone mode (s .color .a) (s .count) (y .coverage) forced eight) (full-alone mode (s .color .a) (s .count) 7 forced eight))
+
+-- and where P is the memory's colour and that is not known, it is not: that colour may be black or white
+module _ (mode : RenderMode) (k : Combiner) (s : Source) (x : Pixel)
+    (forced : mode .«force_blend» ≡ false) (eight : s .count ≡ 8) (low : orZero (coverageAt x) ≤ 7)
+    (gone : missing (muxOf (mode .«blender_mux») .p) (colorMarked (x .mark)) ≡ true) where
+  abbrev withRed : ℕ → Pixel
+  withRed r = record { red = r; green = 0; blue = 0; coverage = orZero (coverageAt x); mark = 3 }
+
+  no-color : colorMarked (x .mark) ≡ false
+  no-color = not-true (colorMarked (x .mark)) (both-right (eqb (muxOf (mode .«blender_mux») .p) 1) (not (colorMarked (x .mark))) gone)
+
+  red-completes : (r : ℕ) → Completes (withRed r) x
+  red-completes r =
+      record {
+        knows =
+            record {
+              mark1 = λ t. refl;
+              red = λ t. never (sym no-color ∙ t);
+              green = λ t. never (sym no-color ∙ t);
+              blue = λ t. never (sym no-color ∙ t);
+              mark2 = λ t. refl;
+              coverage = λ t. λ i. orZero (cond (t i) (Known (x .coverage)) Unknown);
+            };
+        all = record { mark1 = refl; mark2 = refl };
+        low = low;
+      }
+
+  -- its red byte is then the memory's
+  red-stays : (r : ℕ) → colorsAfter mode k s (withRed r) .red ≡ byteOf (unit r)
+  unfolding ruleF3 memoryOf
+  red-stays r =
+      let y = withRed r in
+      ap (λ (c : Colors). c .red) (all-colors mode k s y (red-completes r .all))
+      ∙ alone-blend-memory mode k (s .color) (s .«shade_alpha») (s .count) (memoryOf true y) (y .coverage)
+      (eqb-true (muxOf (mode .«blender_mux») .p) 1 (both-left (eqb (muxOf (mode .«blender_mux») .p) 1) (not (colorMarked (x .mark))) gone))
+      (full-alone mode (s .color .a) (s .count) (y .coverage) forced eight)
+
+  pub full-uncertain : (v : Colors) → CertainColors mode k s x v → ⊥
+  unfolding div ofInt mul lt
+  full-uncertain v certain =
+      let at : (r : ℕ) → v .red ≡ byteOf (unit r) = λ r. sym (ap (λ (c : Colors). c .red) (certain (withRed r) (red-completes r))) ∙ red-stays r in
+      let black : byteOf (unit 0) ≡ 0 = refl in
+      let white : byteOf (unit 255) ≡ 255 = refl in
+      let same : _≡_ {A = ℕ} 0 255 = sym black ∙ sym (at 0) ∙ at 255 ∙ white in
+      omega arith
+
+-- F2's doubt of such a pixel gives it up, whether F1 says yes or no
+module _ (mode : RenderMode) (k : Combiner) (s : Source) (x : Pixel) (doubt : ruleF2 mode s (coverageAt x) ≡ true) where
+  left-unknown : knownAfter mode s x ≡ false
+  unfolding knownAfter
+  left-unknown = (λ i. ruleF1 mode s (coverageAt x) (colorMarked (x .mark)) && not (doubt i)) ∙ none (ruleF1 mode s (coverageAt x) (colorMarked (x .mark)))
+    where
+      none : (b : Bool) → (b && false) ≡ false
+      none true = refl
+      none false = refl
+
+  not-forced : mode .«force_blend» ≡ false
+  unfolding ruleF2
+  not-forced = go (unknown (coverageAt x)) (mode .antialias) (mode .«force_blend») (reject mode (s .color .a)) doubt
+    where
+      go : (u a f r : Bool) → (u && a && not f && not r) ≡ true → f ≡ false
+      go u a false r t = refl
+      go true true true r t = never t
+      go true false true r t = never t
+      go false a true r t = never t
+
+  pub full-given-up :
+      s .count ≡ 8 → missing (muxOf (mode .«blender_mux») .p) (colorMarked (x .mark)) ≡ false
+      → (knownAfter mode s x ≡ false) × CertainColors mode k s x (colorsOver mode k s x 7)
+  full-given-up eight there = (left-unknown, full-certain mode k s x not-forced eight there)

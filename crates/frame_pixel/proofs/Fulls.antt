@@ -1,7 +1,7 @@
 -- The one law of full pixels: what is worked out ahead for them (`fullStep`) is a step of the rules. Assumes nothing.
 use Prim.Native.Nat.{ℕ, _+_, _-_, _%_, _≤_, min}
 use native.Mathlib.Omega.{arith}
-use mathlib.Core.Path.{_≡_, refl, sym, ap, subst, _∙_}
+use mathlib.Core.Path.{_≡_, refl, sym, ap, _∙_}
 use mathlib.Core.Bool.{Bool, true, false, cond, not, _&&_, _||_}
 use borrow.Author.Tests.{ne-eqb, eqb-true}
 use lib.Dec.{eqb}
@@ -14,7 +14,7 @@ use Rattle.blender.specs.declared.Source.{Source}
 use Rattle.blender.specs.Coverage.{blends, clampOf, destinationOf}
 use Rattle.blender.specs.Known.{alone, colorKnown}
 use Rattle.blender.specs.Blend.{orZero}
-use Rattle.blender.specs.Layer.{layeredOf, steadyOf, layerOf, opaqueOf}
+use Rattle.blender.specs.Layer.{steadyOf, opaqueOf}
 use Rattle.blender.proofs.Solid.{opaque, alone-blend}
 use Rattle.blender.proofs.Layers.{layered, Steady, steady, steady-alone, steady-known, steady-doubt}
 use Rattle.frame_pixel.specs.declared.Pixel.{Pixel}
@@ -23,8 +23,8 @@ use Rattle.frame_pixel.specs.declared.full.Full.{Full}
 use Rattle.frame_pixel.specs.Marks.{colorMarked, coverageMarked}
 use Rattle.frame_pixel.specs.Rules.{ruleF1, ruleF2, memoryOf, ruleF3, ruleF4, freshCoverage, ruleF5, coverageAt, knownAfter, colorsAfter, coverageAfter, assembled, pixelStep}
 use Rattle.frame_pixel.specs.Coloring.{ownColors, overColors}
-use Rattle.frame_pixel.specs.Full.{isFull, FullOf, Enough, fullKnown, fullColors, fullCoverage, fullWith, fullStep}
-use Rattle.frame_pixel.proofs.Alike.{never}
+use Rattle.frame_pixel.specs.Full.{isFull, FullOf, Enough, fullCoverage, fullWith, fullStep}
+use Rattle.blender.proofs.Tests.{never}
 use Rattle.frame_pixel.proofs.Colorings.{where-known, opaque-yes, opaque-colors, layered-known, layered-colors}
 
 -- ---- F5 with all eight samples, by what it makes of coverage 0 and of an unknown one

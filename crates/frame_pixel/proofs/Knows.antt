@@ -22,10 +22,11 @@ use Rattle.blender.proofs.Range.{destination-le}
 use Rattle.blender.proofs.Settled.{settled-full, settled-own}
 use Rattle.frame_pixel.specs.declared.Pixel.{Pixel}
 use Rattle.frame_pixel.specs.declared.Colors.{Colors}
-use Rattle.frame_pixel.specs.Marks.{colorMarked, coverageMarked}
-use Rattle.frame_pixel.specs.Rules.{ruleF1, ruleF2, memoryOf, ruleF3, ruleF4, freshCoverage, ruleF5, coverageAt, knownAfter, colorsAfter, coverageAfter, pixelStep}
-use Rattle.frame_pixel.specs.Knows.{KnowsPixel, AllKnownPixel}
-use Rattle.frame_pixel.proofs.Alike.{never, color-after, covered-after, colors-after}
+use Rattle.frame_pixel.specs.Marks.{colorMarked, coverageMarked, markOf}
+use Rattle.frame_pixel.specs.Rules.{ruleF1, ruleF2, memoryOf, ruleF3, ruleF4, freshCoverage, ruleF5, coverageAt, knownAfter, colorsAfter, coverageAfter, assembled, pixelStep}
+use Rattle.frame_pixel.specs.Knows.{KnowsPixel, AllKnownPixel, consoleStep}
+use Rattle.blender.proofs.Tests.{never, both-left, both-right}
+use Rattle.frame_pixel.proofs.Alike.{color-after, covered-after, colors-after}
 
 -- ---- what is known of two coverages, by their marks and bytes
 less-of : (a b : Bool) (c d : ℕ) → (a ≡ true → b ≡ true) → (a ≡ true → d ≡ c) → Less (cond a (Known c) Unknown) (cond b (Known d) Unknown)
@@ -105,20 +106,12 @@ sure-alone mode s n {i = i} {j = j} t Less.none Less.none =
         or-true true = refl
         or-true false = refl
 
-module _ (mode : RenderMode) (s : Source) (c : Coverage) (a : Bool) (yes-here : (ruleF1 mode s c a && not (ruleF2 mode s c)) ≡ true) where
+module _ (mode : RenderMode) (s : Source) (c : Coverage) (a : Bool) (known : (ruleF1 mode s c a && not (ruleF2 mode s c)) ≡ true) where
   said : ruleF1 mode s c a ≡ true
-  said = go (ruleF1 mode s c a) yes-here
-    where
-      go : (p : Bool) → (p && not (ruleF2 mode s c)) ≡ true → p ≡ true
-      go true t = refl
-      go false t = never t
+  said = both-left (ruleF1 mode s c a) (not (ruleF2 mode s c)) known
 
   sure : ruleF2 mode s c ≡ false
-  sure = not-true (ruleF2 mode s c) (go (ruleF1 mode s c a) yes-here)
-    where
-      go : (p : Bool) → (p && not (ruleF2 mode s c)) ≡ true → not (ruleF2 mode s c) ≡ true
-      go true t = t
-      go false t = never t
+  sure = not-true (ruleF2 mode s c) (both-right (ruleF1 mode s c a) (not (ruleF2 mode s c)) known)
 
   module _ (d : Coverage) (b : Bool) (l : Less c d) (h : a ≡ true → b ≡ true) where
     yes-too : (ruleF1 mode s d b && not (ruleF2 mode s d)) ≡ true
@@ -136,23 +129,23 @@ module _ (mode : RenderMode) (s : Source) (c : Coverage) (a : Bool) (yes-here : 
 -- the memory's colour, where it is known
 pub memory-too : (y x : Pixel) → KnowsPixel y x → colorMarked (x .mark) ≡ true → memoryOf (colorMarked (y .mark)) y ≡ memoryOf (colorMarked (x .mark)) x
 unfolding memoryOf
-memory-too y x h t = rw (t, h .marked t, h .red t, h .green t, h .blue t)
+memory-too y x h t = rw (t, h .mark1 t, h .red t, h .green t, h .blue t)
 
 module _ (mode : RenderMode) (k : Combiner) (s : Source) (y x : Pixel) (h : KnowsPixel y x) where
   less : Less (coverageAt x) (coverageAt y)
-  less = less-of (coverageMarked (x .mark)) (coverageMarked (y .mark)) (x .coverage) (y .coverage) (h .covered) (h .coverage)
+  less = less-of (coverageMarked (x .mark)) (coverageMarked (y .mark)) (x .coverage) (y .coverage) (h .mark2) (h .coverage)
 
   -- a colour that is known after it on x is known after it on y
   pub known-too : knownAfter mode s x ≡ true → knownAfter mode s y ≡ true
   unfolding knownAfter
-  known-too t = yes-too mode s (coverageAt x) (colorMarked (x .mark)) t (coverageAt y) (colorMarked (y .mark)) less (h .marked)
+  known-too t = yes-too mode s (coverageAt x) (colorMarked (x .mark)) t (coverageAt y) (colorMarked (y .mark)) less (h .mark1)
 
   -- and is the same
   pub same-colors : knownAfter mode s x ≡ true → colorsAfter mode k s y ≡ colorsAfter mode k s x
   unfolding colorsAfter knownAfter
   same-colors t =
       (λ i. cond (known-too t i) (ruleF3 mode k s (coverageAt y) (memoryOf (colorMarked (y .mark)) y)) (ruleF4 y))
-      ∙ colors-too mode s (coverageAt x) (colorMarked (x .mark)) t (coverageAt y) (colorMarked (y .mark)) less (h .marked) k (memory-too y x h)
+      ∙ colors-too mode s (coverageAt x) (colorMarked (x .mark)) t (coverageAt y) (colorMarked (y .mark)) less (h .mark1) k (memory-too y x h)
       ∙ (λ i. cond (sym t i) (ruleF3 mode k s (coverageAt x) (memoryOf (colorMarked (x .mark)) x)) (ruleF4 x))
 
   -- a coverage that is known after it on x is known after it on y, and is the same
@@ -160,15 +153,15 @@ module _ (mode : RenderMode) (k : Combiner) (s : Source) (y x : Pixel) (h : Know
   unfolding coverageAfter
   coverage-too = rule-less mode (s .count) less
 
-  -- One emitted pixel keeps the order: if y knows at least what x knows, it does so after the pixel.
+  -- One emitted pixel keeps it: if y knows at least what x knows, it does so after the pixel.
   pub pixel-knows : KnowsPixel (pixelStep mode k s y) (pixelStep mode k s x)
   pixel-knows =
       record {
-        marked = λ t. color-after mode k s y ∙ known-too (was t);
+        mark1 = λ t. color-after mode k s y ∙ known-too (was t);
         red = λ t. ap (λ (c : Colors). c .red) (colors t);
         green = λ t. ap (λ (c : Colors). c .green) (colors t);
         blue = λ t. ap (λ (c : Colors). c .blue) (colors t);
-        covered = λ t. coverage t .0;
+        mark2 = λ t. coverage t .0;
         coverage = λ t. coverage t .1;
       }
     where
@@ -199,31 +192,31 @@ coverage-after mode k s x p q h = rw (covered-after mode k s x) (rule-le mode (s
 -- ---- a pixel of which everything is known
 -- its coverage
 pub all-covered : (x : Pixel) → AllKnownPixel x → coverageAt x ≡ Known (x .coverage)
-all-covered x h = λ i. cond (h .covered i) (Known (x .coverage)) Unknown
+all-covered x h = λ i. cond (h .mark2 i) (Known (x .coverage)) Unknown
 
 module _ (mode : RenderMode) (k : Combiner) (s : Source) (x : Pixel) (h : AllKnownPixel x) where
   -- F1 says yes, and F2 has no doubt
   pub all-known : knownAfter mode s x ≡ true
   unfolding knownAfter ruleF1 ruleF2
   all-known =
-      (λ i. ruleF1 mode s (all-covered x h i) (h .marked i) && not (ruleF2 mode s (all-covered x h i)))
+      (λ i. ruleF1 mode s (all-covered x h i) (h .mark1 i) && not (ruleF2 mode s (all-covered x h i)))
       ∙ (λ i. known-all mode (s .color .a) (s .count) (x .coverage) i && true)
+
+  -- so its colours are F3's over its own coverage
+  pub all-colors : colorsAfter mode k s x ≡ ruleF3 mode k s (Known (x .coverage)) (memoryOf (colorMarked (x .mark)) x)
+  unfolding colorsAfter
+  all-colors = λ i. cond (all-known i) (ruleF3 mode k s (all-covered x h i) (memoryOf (colorMarked (x .mark)) x)) (ruleF4 x)
+
+  -- Where everything is known the rules are the console's step: no question of what is known has a part in it.
+  pub all-known-step : pixelStep mode k s x ≡ consoleStep mode k s x
+  unfolding pixelStep assembled colorsAfter coverageAfter ruleF3 ruleF5 consoleStep
+  all-known-step =
+      λ i.
+      assembled (all-known i) (cond (all-known i) (ruleF3 mode k s (all-covered x h i) (memoryOf (h .mark1 i) x)) (ruleF4 x)) (ruleF5 mode (s .count) (all-covered x h i))
+      (x .coverage)
 
   -- everything is known of it after an emitted pixel
   pub pixel-all-known : AllKnownPixel (pixelStep mode k s x)
-  unfolding ruleF5 coverageAfter
+  unfolding consoleStep markOf
   pixel-all-known =
-      record {
-        marked = color-after mode k s x ∙ all-known;
-        covered =
-            of-known (coverageMarked (pixelStep mode k s x .mark)) (pixelStep mode k s x .coverage)
-            (covered-after mode k s x ∙ ap (ruleF5 mode (s .count)) (all-covered x h));
-      }
-    where
-      of-known : (b : Bool) (c : ℕ) {d : ℕ} → cond b (Known c) Unknown ≡ Known d → b ≡ true
-      of-known true c e = refl
-      of-known false c e = ap known e
-        where
-          known : Coverage → Bool
-          known Unknown = false
-          known (Known c) = true
+      record { mark1 = ap (λ (y : Pixel). colorMarked (y .mark)) all-known-step; mark2 = ap (λ (y : Pixel). coverageMarked (y .mark)) all-known-step }

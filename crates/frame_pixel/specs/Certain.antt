@@ -2,16 +2,16 @@
 -- What is known is true.
 use Prim.Native.Nat.{ℕ, _≤_}
 use mathlib.Core.Path.{_≡_}
-use mathlib.Core.Bool.{Bool, _&&_, _||_}
-use lib.Dec.{eqb}
+use mathlib.Core.Bool.{Bool, _&&_}
 use Rattle.state.specs.declared.RenderMode.{RenderMode}
 use Rattle.combiner.specs.declared.Combiner.{Combiner}
 use Rattle.blender.specs.declared.Coverage.the-variants.{Known}
 use Rattle.blender.specs.declared.Source.{Source}
+use Rattle.blender.specs.Settled.{settled}
 use Rattle.frame_pixel.specs.declared.Pixel.{Pixel}
 use Rattle.frame_pixel.specs.declared.Colors.{Colors}
-use Rattle.frame_pixel.specs.Marks.{colorMarked}
-use Rattle.frame_pixel.specs.Rules.{memoryOf, ruleF3, coverageAfter, colorsAfter}
+use Rattle.frame_pixel.specs.Marks.{colorMarked, unknown}
+use Rattle.frame_pixel.specs.Rules.{memoryOf, ruleF3, freshCoverage, coverageAfter, colorsAfter}
 use Rattle.frame_pixel.specs.Knows.{KnowsPixel, AllKnownPixel}
 
 -- what pixel x may really be: everything is known of y, and what is known of x is the same there
@@ -28,16 +28,14 @@ CertainColors mode k s x colors = (y : Pixel) → Completes y x → colorsAfter 
 abbrev pub CertainCoverage : RenderMode → Source → Pixel → ℕ → Type 0
 CertainCoverage mode s x c = (y : Pixel) → Completes y x → coverageAfter mode s y ≡ Known c
 
--- where F5 leaves a coverage unknown that is certain: cvg_dst 0, clamp, of a pixel that may be blended, with all eight samples, or with seven of one that always is
+-- where F5 leaves a coverage unknown that is certain: `destination` gives one number for every memory coverage, and F5 does not store it
 unfoldable pub coverageGivenUp : RenderMode → ℕ → Bool
-coverageGivenUp mode n =
-    let f = mode .«force_blend» in
-    eqb (mode .«cvg_dst») 0 && (f || mode .antialias) && (eqb n 8 || (f && eqb n 7))
+coverageGivenUp mode n = settled mode n && unknown (freshCoverage mode n)
 
 -- F3's colours over this memory coverage
 abbrev pub colorsOver : RenderMode → Combiner → Source → Pixel → ℕ → Colors
 colorsOver mode k s x c = ruleF3 mode k s (Known c) (memoryOf (colorMarked (x .mark)) x)
 
--- they are these over the least coverage and over the full one
+-- F3's colours over memory coverage 0 and over 7 are both these
 abbrev pub SameAtEnds : RenderMode → Combiner → Source → Pixel → Colors → Type 0
 SameAtEnds mode k s x colors = (colorsOver mode k s x 0 ≡ colors) × (colorsOver mode k s x 7 ≡ colors)

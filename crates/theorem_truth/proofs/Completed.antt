@@ -1,5 +1,4 @@
--- Whatever the bytes really were that a frame does not know: the frame with these bytes knows at least what it knows, and everything is known on it. So every word that
--- is handed out is the one that such a frame hands out. Assumes nothing.
+-- Whatever the bytes really were that a frame does not know: the frame with these bytes knows at least what it knows, and everything is known on it. Assumes nothing.
 use Prim.Native.Nat.{ℕ, zero, suc, _+_, _*_, _/_, _≤_, _<_}
 use mathlib.Core.Path.{_≡_, refl, sym, ap, subst, _∙_}
 use mathlib.Core.Bool.{Bool, true, false, cond}
@@ -10,17 +9,16 @@ use Rattle.blender.specs.declared.Coverage.the-variants.{Unknown, Known}
 use Rattle.blender.specs.Blend.{orZero}
 use Rattle.frame_pixel.specs.Marks.{highestMark, colorMarked, coverageMarked, markOf}
 use Rattle.frame_pixel.specs.Knows.{KnowsPixel, AllKnownPixel}
-use Rattle.frame_pixel.proofs.Alike.{never}
+use Rattle.blender.proofs.Tests.{never}
 use Rattle.frame.specs.Frame.{Frame, pixelAt}
 use Rattle.frame.specs.Checks.{frameRefusal}
 use Rattle.frame.specs.Fits.{Fit}
 use Rattle.frame.specs.Knows.{KnowsAtLeast, AllKnown}
 use Rattle.frame.proofs.Fits.{accepted, not-refused}
-use Rattle.words_read.specs.Read.{ReadArgs, readAnswer}
-use Rattle.theorem_calls.specs.Calls.{Call, frameAfterAll}
+use Rattle.theorem_calls.specs.Calls.{Call}
 use Rattle.theorem_truth.specs.Completed.{filled, completed}
 use Rattle.theorem_truth.specs.Truth.{Truth}
-use Rattle.theorem_truth.proofs.Truth.{truth, true-word}
+use Rattle.theorem_truth.proofs.Truth.{truth}
 
 -- ---- one slice
 module _ (known : ℕ → Bool) (really : ℕ → ℕ) where
@@ -79,11 +77,11 @@ module _ (f : Frame) (colors coverages : ℕ → ℕ) where
   pixel-completed : (p : ℕ) → KnowsPixel (pixelAt whole p) (pixelAt f p)
   pixel-completed p =
       record {
-        marked = λ t. ap colorMarked (marked p (inside colorMarked refl (f .marks) p t));
+        mark1 = λ t. ap colorMarked (marked p (inside colorMarked refl (f .marks) p t));
         red = λ t. color-stays p (3 * p) (omega arith) t;
         green = λ t. color-stays p (3 * p + 1) (omega arith) t;
         blue = λ t. color-stays p (3 * p + 2) (omega arith) t;
-        covered = λ t. ap coverageMarked (marked p (inside coverageMarked refl (f .marks) p t));
+        mark2 = λ t. ap coverageMarked (marked p (inside coverageMarked refl (f .marks) p t));
         coverage = λ t. filled-known (λ (p : ℕ). coverageMarked (getD (f .marks) p 0)) coverages 0 (f .coverages) p p (omega arith) t;
       }
 
@@ -91,7 +89,7 @@ module _ (f : Frame) (colors coverages : ℕ → ℕ) where
   completed-all-known = record { pixels = λ p l. pixel p (subst (λ (n : ℕ). p < n) (length-filled _ _ 0 (f .marks)) l) }
     where
       pixel : (p : ℕ) → p < length (f .marks) → AllKnownPixel (pixelAt whole p)
-      pixel p l = record { marked = ap colorMarked (marked p l); covered = ap coverageMarked (marked p l) }
+      pixel p l = record { mark1 = ap colorMarked (marked p l); mark2 = ap coverageMarked (marked p l) }
 
   module _ (w h : ℕ) (low : (p : ℕ) → coverages p ≤ 7) (e : frameRefusal f w h ≡ 0) where
     completed-fits : Fit (w * h) whole
@@ -134,11 +132,5 @@ module _ (f : Frame) (colors coverages : ℕ → ℕ) where
         }
 
     -- So the theorem holds of it: for every list of calls, on f and on f completed by whatever its unknown bytes really were.
-    pub completed-truth : (os : List Call) → Truth w h os f whole
-    completed-truth os = truth w h os f whole completed-knows
-
-    -- And every word that is handed out is the word that a frame on which everything is known hands out.
-    pub completed-word :
-        (os : List Call) (r : ReadArgs) → readAnswer r w h (frameAfterAll w h os f) .number ≡ 0
-        → readAnswer r w h (frameAfterAll w h os whole) ≡ readAnswer r w h (frameAfterAll w h os f)
-    completed-word os r t = true-word w h os f whole completed-knows r t
+    pub completed-truth : (os : List Call) → Truth w h os whole f
+    completed-truth os = truth w h os whole f completed-knows

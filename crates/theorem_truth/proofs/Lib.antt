@@ -2,4 +2,5 @@
 pub mod Words
 pub mod Truth
 pub mod Completed
-pub mod Doubt
+pub mod Console
+pub mod Wrong

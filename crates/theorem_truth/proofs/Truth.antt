@@ -16,7 +16,7 @@ use Rattle.words_pack.specs.Writer.{supportedOf}
 use Rattle.frame_pixel.specs.declared.Pixel.{Pixel}
 use Rattle.frame_pixel.specs.Rules.{pixelStep}
 use Rattle.frame_pixel.specs.Knows.{AllKnownPixel}
-use Rattle.frame_pixel.proofs.Alike.{never}
+use Rattle.blender.proofs.Tests.{never}
 use Rattle.frame_pixel.proofs.Knows.{pixel-knows, pixel-all-known}
 use Rattle.raster_pixel.specs.Emitted.{Emit}
 use Rattle.frame.specs.Frame.{Frame, pixelAt}
@@ -29,9 +29,10 @@ use Rattle.frame_draw.specs.Checks.{entryRefusal}
 use Rattle.frame_draw.specs.Draw.{DrawArgs, Plan, planOf, DrawAnswer, answerBy, frameBy, drawAnswer, drawFrame}
 use Rattle.frame_draw.proofs.Frames.{draw-refusal}
 use Rattle.words_read.specs.Read.{ReadArgs, writerOf, readable, wordRefusal, readRefusal, wordOf, wordOr, readAnswer}
+use Rattle.words_run.specs.Run.{entryOf, runAnswer}
 use Rattle.theorem_calls.specs.Calls.{Call, Answer, answerTo, frameAfter, answers, frameAfterAll}
 use Rattle.theorem_truth.specs.Truth.{TellsAnswer, Tells, Truth}
-use Rattle.theorem_truth.proofs.Words.{read-tells, run-tells, word-again}
+use Rattle.theorem_truth.proofs.Words.{read-tells, run-tells, word-again, entry-again}
 
 -- ---- part 1: emitted pixels
 module _ (mode : RenderMode) (k : Combiner) where
@@ -95,18 +96,26 @@ module _ (w h : ℕ) where
 -- If g knows at least what f knows, then for every list of draws, word reads and runs of them, refused ones included, made in order on both: each draw is answered alike,
 -- number and count; each word that is handed out on f is handed out on g and is the same word, and a word that is turned away on f is turned away on g with the same
 -- number, or with number 10 on f and handed out on g; and after the list g still knows at least what f knows.
-pub truth : (w h : ℕ) (os : List Call) (f g : Frame) → KnowsAtLeast w h g f → Truth w h os f g
-truth w h os f g a = record { tells = list-tells w h os g f a; knows = knows-after w h os g f a }
+pub truth : (w h : ℕ) (os : List Call) (g f : Frame) → KnowsAtLeast w h g f → Truth w h os g f
+truth w h os g f a = record { tells = list-tells w h os g f a; knows = knows-after w h os g f a }
 
--- A word that is handed out on f, after any list, is handed out on g.
+-- A word that is handed out on f, after any list, is handed out on g, and is the same word.
 pub true-word :
-    (w h : ℕ) (os : List Call) (f g : Frame) → KnowsAtLeast w h g f → (r : ReadArgs)
+    (w h : ℕ) (os : List Call) (g f : Frame) → KnowsAtLeast w h g f → (r : ReadArgs)
     → readAnswer r w h (frameAfterAll w h os f) .number ≡ 0 → readAnswer r w h (frameAfterAll w h os g) ≡ readAnswer r w h (frameAfterAll w h os f)
-true-word w h os f g a r t = word-again (read-tells w h (knows-after w h os g f a) r) t
+true-word w h os g f a r t = word-again (read-tells w h (knows-after w h os g f a) r) t
+
+-- So is each word of a run.
+pub true-entry :
+    (w h : ℕ) (os : List Call) (g f : Frame) → KnowsAtLeast w h g f → (r : ReadArgs) (ws ns : List ℕ) (i : ℕ)
+    → let a = runAnswer r w h (frameAfterAll w h os f) ws ns in
+    let b = runAnswer r w h (frameAfterAll w h os g) ws ns in
+    entryOf (a .words) (a .numbers) i .number ≡ 0 → entryOf (b .words) (b .numbers) i ≡ entryOf (a .words) (a .numbers) i
+true-entry w h os g f a r ws ns i t = entry-again i (run-tells w h (knows-after w h os g f a) r ws ns) t
 
 -- ---- part 4: a frame on which everything is known
 module _ (mode : RenderMode) (k : Combiner) where
-  step-all-known : (f : Frame) (e : Emit) → AllKnown f → AllKnown (stepFrame mode k f e)
+  pub step-all-known : (f : Frame) (e : Emit) → AllKnown f → AllKnown (stepFrame mode k f e)
   unfolding stepFrame
   step-all-known f e a =
       let p = e .pixel in
@@ -116,7 +125,7 @@ module _ (mode : RenderMode) (k : Combiner) where
   list-all-known f [] a = a
   list-all-known f (e ∷ es) a = list-all-known (stepFrame mode k f e) es (step-all-known f e a)
 
-draw-all-known : (w h : ℕ) (d : DrawArgs) (f : Frame) → AllKnown f → AllKnown (drawFrame d w h f)
+pub draw-all-known : (w h : ℕ) (d : DrawArgs) (f : Frame) → AllKnown f → AllKnown (drawFrame d w h f)
 unfolding drawFrame
 draw-all-known w h d f a = go (planOf d w h f)
   where
@@ -166,7 +175,7 @@ all-known-read w h f a r = refused (frameRefusal f w h) refl
         let l : r .pixel < w * h = ltb-true (r .pixel) (w * h) t in
         let i : r .pixel < length (f .marks) = omega arith in
         let c : AllKnownPixel x = a .pixels (r .pixel) i in
-        λ j. c .marked j && (c .covered j || not (eqb (r .siz) 2))
+        λ j. c .mark1 j && (c .mark2 j || not (eqb (r .siz) 2))
 
     refused : (n : ℕ) → frameRefusal f w h ≡ n → wordOr (orElse n word) (wordOf r w x) .number ≡ 10 → ⊥
     refused zero e t =

@@ -18,13 +18,12 @@ use Rattle.words_pack.specs.Writer.{colorSupported, supportedOf, pixelBytesOf, 
 use Rattle.frame_pixel.specs.declared.Pixel.{Pixel}
 use Rattle.frame_pixel.specs.Marks.{colorMarked, coverageMarked, coverageOf}
 use Rattle.frame_pixel.specs.Knows.{KnowsPixel}
-use Rattle.frame_pixel.proofs.Alike.{never}
+use Rattle.blender.proofs.Tests.{never, both-left, both-right}
 use Rattle.frame.specs.Frame.{Frame, pixelAt}
 use Rattle.frame.specs.Knows.{KnowsAtLeast}
 use Rattle.frame.specs.Checks.{orElse, frameRefusal}
-use Rattle.frame.proofs.Fits.{both-left, both-right}
 use Rattle.words_read.specs.Read.{ReadArgs, WordAnswer, writerBy, writerOf, readable, wordRefusal, readRefusal, bytesOf, wordOf, wordOr, readAnswer}
-use Rattle.words_run.specs.Run.{readAt, answersFrom, readAnswers, numbersOf, wordsOf, oneIf, countOf, unmatched, RunAnswer, runBy, runAnswer}
+use Rattle.words_run.specs.Run.{readAt, answersFrom, readAnswers, numbersOf, wordsOf, entryOf, oneIf, countOf, unmatched, RunAnswer, runBy, runAnswer}
 use Rattle.theorem_truth.specs.Truth.{TellsWord, TellsEntries, TellsRun}
 
 -- ---- a word read
@@ -46,14 +45,14 @@ size-one r w t e = eqb-true (r .siz) 1 (go (eqb (r .siz) 2) (eqb (r .siz) 1) (eq
 
 module _ {y x : Pixel} (h : KnowsPixel y x) where
   same-coverage : coverageMarked (x .mark) ≡ true → coverageOf (y .mark) (y .coverage) ≡ coverageOf (x .mark) (x .coverage)
-  same-coverage t = rw (t, h .covered t, h .coverage t)
+  same-coverage t = rw (t, h .mark2 t, h .coverage t)
 
   same-color : colorMarked (x .mark) ≡ true → bytesOf y ≡ bytesOf x
   same-color t = rw (h .red t, h .green t, h .blue t)
 
   readable-too : (siz : ℕ) → readable (x .mark) siz ≡ true → readable (y .mark) siz ≡ true
   readable-too siz t =
-      go (colorMarked (x .mark)) (colorMarked (y .mark)) (coverageMarked (x .mark)) (coverageMarked (y .mark)) (not (eqb siz 2)) (h .marked) (h .covered) t
+      go (colorMarked (x .mark)) (colorMarked (y .mark)) (coverageMarked (x .mark)) (coverageMarked (y .mark)) (not (eqb siz 2)) (h .mark1) (h .mark2) t
     where
       go : (a b c d s : Bool) → (a ≡ true → b ≡ true) → (c ≡ true → d ≡ true) → (a && (c || s)) ≡ true → (b && (d || s)) ≡ true
       go false b c d s p q t = never t
@@ -115,12 +114,12 @@ module _ (w h : ℕ) {g f : Frame} (a : KnowsAtLeast w h g f) where
 -- a word that is handed out on f is handed out on g, and is the same
 pub word-again : {b a : WordAnswer} → TellsWord b a → a .number ≡ 0 → b ≡ a
 word-again TellsWord.same t = refl
-word-again (TellsWord.more n m) t = absurd (omega arith)
+word-again (TellsWord.more n m) t = let e = ap (λ (v : WordAnswer). v .number) n in absurd (omega arith)
 
 -- ---- a run: the answers one by one, and so its entries
 more-words : {b a : WordAnswer} → TellsWord b a → oneIf (a .number) ≤ oneIf (b .number)
 more-words TellsWord.same = omega arith
-more-words {b} {a} (TellsWord.more n m) = subst (λ (i : ℕ). oneIf i ≤ oneIf (b .number)) (sym n) (omega arith)
+more-words {b} (TellsWord.more n m) = subst (λ (v : WordAnswer). oneIf (v .number) ≤ oneIf (b .number)) (sym n) (omega arith)
 
 module _ (on : ℕ → WordAnswer) (of : ℕ → WordAnswer) (each : (i : ℕ) → TellsWord (on i) (of i)) where
   counts : (i n : ℕ) → countOf (answersFrom of i n) ≤ countOf (answersFrom on i n)
@@ -135,12 +134,11 @@ module _ (on : ℕ → WordAnswer) (of : ℕ → WordAnswer) (each : (i : ℕ) �
   numbers-as-long i zero = refl
   numbers-as-long i (suc n) = ap suc (numbers-as-long (suc i) n)
 
-  -- a double is written out, so that an entry's two bytes are found behind those before it
-  entries-at :
-      (i n k d : ℕ) → d ≡ 2 * k
-      → TellsWord
-      (record { number = getD (numbersOf (answersFrom on i n)) k 0; word = (getD (wordsOf (answersFrom on i n)) d 0, getD (wordsOf (answersFrom on i n)) (suc d) 0) })
-      (record { number = getD (numbersOf (answersFrom of i n)) k 0; word = (getD (wordsOf (answersFrom of i n)) d 0, getD (wordsOf (answersFrom of i n)) (suc d) 0) })
+  -- entry k, whose first byte is at d and whose second at o
+  abbrev entry : List WordAnswer → ℕ → ℕ → ℕ → WordAnswer
+  entry xs k d o = record { number = getD (numbersOf xs) k 0; word = (getD (wordsOf xs) d 0, getD (wordsOf xs) o 0) }
+
+  entries-at : (i n k d : ℕ) → d ≡ 2 * k → TellsWord (entry (answersFrom on i n) k d (suc d)) (entry (answersFrom of i n) k d (suc d))
   entries-at i zero k d e = TellsWord.same
   entries-at i (suc n) zero zero e = each i
   entries-at i (suc n) zero (suc d) e = absurd (omega arith)
@@ -156,13 +154,8 @@ module _ (on : ℕ → WordAnswer) (of : ℕ → WordAnswer) (each : (i : ℕ) �
         words = words-as-long 0 n;
         numbers = numbers-as-long 0 n;
         entries = λ (k : ℕ).
-            let p : suc (2 * k) ≡ 2 * k + 1 = omega arith in
-            subst
-            (λ (o : ℕ).
-            TellsWord
-            (record { number = getD (numbersOf (answersFrom on 0 n)) k 0; word = (getD (wordsOf (answersFrom on 0 n)) (2 * k) 0, getD (wordsOf (answersFrom on 0 n)) o 0) })
-            (record { number = getD (numbersOf (answersFrom of 0 n)) k 0; word = (getD (wordsOf (answersFrom of 0 n)) (2 * k) 0, getD (wordsOf (answersFrom of 0 n)) o 0) }))
-            p (entries-at 0 n k (2 * k) refl);
+            let next : suc (2 * k) ≡ 2 * k + 1 = omega arith in
+            subst (λ (o : ℕ). TellsWord (entry (answersFrom on 0 n) k (2 * k) o) (entry (answersFrom of 0 n) k (2 * k) o)) next (entries-at 0 n k (2 * k) refl);
       }
 
 module _ (w h : ℕ) {g f : Frame} (a : KnowsAtLeast w h g f) where
@@ -180,3 +173,10 @@ module _ (w h : ℕ) {g f : Frame} (a : KnowsAtLeast w h g f) where
           TellsRun.read
           (run-entries (λ (j : ℕ). readAnswer (readAt r j) w h g) (λ (j : ℕ). readAnswer (readAt r j) w h f) (λ (j : ℕ). read-tells w h a (readAt r j)) (length ns))
       go false = TellsRun.same
+
+-- and so is an entry of a run
+pub entry-again :
+    {b a : RunAnswer} (i : ℕ) → TellsRun b a → entryOf (a .words) (a .numbers) i .number ≡ 0
+    → entryOf (b .words) (b .numbers) i ≡ entryOf (a .words) (a .numbers) i
+entry-again i TellsRun.same t = refl
+entry-again i (TellsRun.read e) t = word-again (e .entries i) t

@@ -1,4 +1,5 @@
 -- The definitions of the theorem that what is known is true.
 pub mod Truth
 pub mod Completed
-pub mod Doubt
+pub mod Console
+pub mod Wrong

@@ -7,7 +7,7 @@ use borrow.Author.Tests.{le-ltb, lt-ltb, eqb-true}
 use lib.Dec.{eqb, leb}
 use lib.ListN.{length, getD}
 use Rattle.frame_pixel.specs.declared.Colors.{Colors}
-use Rattle.frame_pixel.proofs.Alike.{never}
+use Rattle.blender.proofs.Tests.{never, both-left}
 use Rattle.words_pack.specs.declared.Bytes2.{Bytes2}
 use Rattle.words_pack.specs.declared.FramebufferEncoding.{FramebufferEncoding}
 use Rattle.words_pack.specs.declared.Literal.the-variants.{Absent}
@@ -19,7 +19,7 @@ use Rattle.frame.specs.Frame.{Frame, pixelAt}
 use Rattle.frame.specs.Loads.{ColorKnown, Loadable}
 use Rattle.frame.specs.Checks.{orElse, frameRefusal}
 use Rattle.words_read.specs.Read.{ReadArgs, writerBy, writerOf, readable, wordRefusal, readRefusal, wordBy, wordOf, wordOr, wordMeans, readAnswer}
-use Rattle.frame.proofs.Fits.{both-left, accepted}
+use Rattle.frame.proofs.Fits.{accepted}
 use Rattle.frame.proofs.Loads.{fit-loadable}
 
 -- ---- three loaded bytes and a coverage, encoded

@@ -1,6 +1,6 @@
 -- A pixel's column and row, counted along a run, and its word from them, which is `encode`'s. Assumes nothing.
-use Prim.Native.Nat.{ℕ, zero, suc, _+_, _*_, _/_, _%_, _≤_, _<_}
-use mathlib.Core.Path.{_≡_, refl, sym, ap, ap₂, subst, _∙_}
+use Prim.Native.Nat.{ℕ, _+_, _*_, _/_, _%_, _≤_, _<_}
+use mathlib.Core.Path.{_≡_, refl, sym, ap, subst, _∙_}
 use mathlib.Core.Bool.{Bool, true, false, cond, not, _&&_, _||_}
 use native.Mathlib.Nat.{suc-mul, mul-one, mul-le-mul-left, mod-lt, mod-eq-of-lt, div-eq-of-lt, div-add-mod', mul-add-mod-self-right, mul-add-div-right}
 use native.Mathlib.Numerals.{add-one}
@@ -11,20 +11,17 @@ use lib.ListN.{length, getD}
 use Rattle.frame_pixel.specs.declared.Pixel.{Pixel}
 use Rattle.frame_pixel.specs.Marks.{colorMarked, coverageMarked, coverageOf}
 use Rattle.blender.specs.Blend.{orZero}
-use Rattle.frame_pixel.proofs.Alike.{never}
+use Rattle.blender.proofs.Tests.{never, both-right}
 use Rattle.words_pack.specs.declared.FramebufferEncoding.{FramebufferEncoding}
 use Rattle.words_pack.specs.declared.Literal.the-variants.{Absent}
 use Rattle.words_pack.specs.declared.Rgba8.{Rgba8}
 use Rattle.words_pack.specs.declared.Bytes2.{Bytes2}
-use Rattle.words_pack.specs.declared.Writer.{Writer}
 use Rattle.words_pack.specs.Writer.{colorSupported, supportedOf, pixelBytesOf, colorOf, encodeOf}
 use Rattle.words_pack.proofs.Encoded.{encode-by, absent-by, color-by}
 use Rattle.frame.specs.Frame.{Frame, pixelAt}
 use Rattle.frame.specs.Checks.{frameRefusal}
-use Rattle.frame.proofs.Fits.{both-right}
 use Rattle.frame.proofs.Loads.{marked-coverage}
 use Rattle.words_read.specs.Read.{ReadArgs, WordAnswer, writerBy, writerOf, readable, bytesOf, wordBy, readAnswer}
-use Rattle.words_run.specs.Run.{readAt}
 use Rattle.words_run.specs.Entries.{byteOf, wordAt, answerAt, answerIn, At}
 use Rattle.words_run.specs.declared.entry.Place.{Place}
 use Rattle.words_read.proofs.Reading.{tenth, read}

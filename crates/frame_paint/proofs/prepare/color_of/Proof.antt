@@ -1,12 +1,11 @@
 -- `color_of` meets its contract: a colour is there where it is a value. Assumes nothing.
-use mathlib.Core.Path.{_≡_, sym, ap, _∙_}
+use mathlib.Core.Path.{sym, ap, _∙_}
 use mathlib.Core.Bool.{Bool, true, false}
 use Rattle.state.specs.declared.Rgba.{Rgba}
 use Rattle.combiner.specs.declared.Color.{Color}
 use Rattle.combiner.specs.declared.Color.the-variants as color
-use Rattle.combiner_resolved.specs.Resolved.{colorValue}
 use Rattle.num_float.specs.Color.{f0}
-use Rattle.frame_pixel.proofs.Alike.{never}
+use Rattle.blender.proofs.Tests.{never}
 use borrow.Author.Needs.{needs}
 use Rattle.frame_paint.proofs.prepare.color_of.Statement.{statement}
 use Rattle.frame_paint.proofs.prepare.color_of.Tie as tie
