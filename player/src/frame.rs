@@ -120,8 +120,9 @@ impl Frame {
         ffi::Frame { width: *width, height: *height, colors, coverages, marks }
     }
 
-    /// The two bytes of a pixel's word, as the console's memory would hold them. It is turned away with numbers 1 to 3 and 8
-    /// to 10.
+    /// The two bytes of a pixel's word, as the console's memory would hold them: where what the frame marks as known was right
+    /// before its draws, a word that is answered is right, whatever was not known. It is turned away with numbers 1 to 3 and
+    /// 8 to 10.
     ///
     /// Every call looks at the whole frame for number 3: [`Frame::read_words`] reads many pixels for that price.
     pub fn read_word(&self, pixel: usize, writer: &Writer) -> Result<[u8; 2], Refusal> {

@@ -39,7 +39,7 @@ knows-alike e h =
       coverage = λ t. sym (h .coverage t);
     }
 
-pub frame-knows : {f g : Frame} → Alike f g → KnowsFrame g f
+frame-knows : {f g : Frame} → Alike f g → KnowsFrame g f
 frame-knows a =
     record {
       colors = sym (a .colors);

@@ -7,14 +7,14 @@ use Rattle.frame_pixel.specs.Knows.{KnowsPixel, AllKnownPixel}
 use Rattle.frame.specs.Frame.{Frame, pixelAt}
 use Rattle.frame.specs.Checks.{frameRefusal}
 
--- slices of the same lengths, and g knows of each pixel at least what f knows
+-- slices of the same lengths, and of each pixel g knows at least what f knows
 pub record KnowsFrame (g f : Frame) : Type 0 where
   pub colors : length (g .colors) ≡ length (f .colors)
   pub coverages : length (g .coverages) ≡ length (f .coverages)
   pub marks : length (g .marks) ≡ length (f .marks)
   pub pixels : (p : ℕ) → KnowsPixel (pixelAt g p) (pixelAt f p)
 
--- and numbers 1 to 3 say the same of both, with the sizes w and h: they let both through, or turn both away with one number
+-- g knows at least what f knows, as frames of w by h pixels: and numbers 1 to 3 say the same of both, so that they let both through or turn both away with one number
 pub record KnowsAtLeast (w h : ℕ) (g f : Frame) : Type 0 where
   pub frame : KnowsFrame g f
   pub numbers : frameRefusal g w h ≡ frameRefusal f w h
