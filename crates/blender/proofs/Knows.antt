@@ -1,5 +1,5 @@
 -- What is known of the memory, and more of it: where `colorKnown` says yes it says yes where more is known, and the bytes of the blend are then the same for every
--- coverage that the memory may have, as long as the pixel stands alone over both or over neither. What `destination` answers, over every memory. Assumes nothing.
+-- coverage that the memory may have, as long as the pixel stands alone over both or over neither. A pixel that stands alone has P's bytes over every coverage. Assumes nothing.
 use Prim.Native.Nat.{ℕ, _+_}
 use mathlib.Core.Path.{_≡_, refl, sym, ap, _∙_}
 use mathlib.Core.Bool.{Bool, true, false, cond, not, _&&_, _||_}

@@ -1,4 +1,4 @@
--- Tests that are yes: no no is one, and both halves of a conjunction are. Assumes nothing.
+-- Booleans that are true: false is not one, and both parts of a conjunction that is true are. Assumes nothing.
 use Prim.Native.Nat.{ℕ}
 use mathlib.Core.Path.{_≡_, refl, ap}
 use mathlib.Core.Bool.{Bool, true, false, cond, _&&_}

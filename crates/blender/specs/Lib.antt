@@ -1,4 +1,4 @@
--- The definitions that the contracts of `blender` cite.
+-- The definitions that the contracts of `blender` cite, and where a coverage is settled.
 pub mod Mux
 pub mod Coverage
 pub mod Known

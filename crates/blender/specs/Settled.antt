@@ -5,7 +5,7 @@ use mathlib.Core.Bool.{Bool, not, _&&_, _||_}
 use lib.Dec.{eqb}
 use Rattle.state.specs.declared.RenderMode.{RenderMode}
 
--- cvg_dst 2, full; or cvg_dst 0, clamp, of a pixel that is never blended, or with all eight samples, or with seven of one that always is
+-- cvg_dst 2, full; or cvg_dst 0, clamp, with force_blend and antialias off, or with all eight samples, or with seven and force_blend on
 unfoldable pub settled : RenderMode → ℕ → Bool
 settled mode n =
     let f = mode .«force_blend» in

@@ -31,7 +31,7 @@ same-back (x ∷ l) [] i a e = absurd (omega arith)
 same-back (x ∷ l) (y ∷ k) zero a e = refl
 same-back (x ∷ l) (y ∷ k) (suc i) a e = same-back l k i a (omega arith)
 
--- a test that follows from another on what was stored follows from it on what is read back
+-- if the second stored value passes a test whenever the first does, so it is with what is read back
 read-more :
     (t : ℕ → Bool) → t 0 ≡ false → (l k : List ℕ) (i a b : ℕ) → length k ≡ length l → (t a ≡ true → t b ≡ true)
     → t (getD (set l i a) i 0) ≡ true → t (getD (set k i b) i 0) ≡ true

@@ -1,4 +1,4 @@
--- The definitions that the contracts of `frame` cite, what may be loaded, and when two frames are alike.
+-- The definitions that the contracts of `frame` cite, what may be loaded, when two frames are alike, and when one knows at least what another knows.
 pub mod Frame
 pub mod Lent
 pub mod Fits

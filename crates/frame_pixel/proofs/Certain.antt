@@ -40,7 +40,7 @@ module _ (mode : RenderMode) (k : Combiner) (s : Source) (x : Pixel) where
       same : {d : Coverage} → Less (Known c) d → d ≡ Known c
       same Less.same = refl
 
--- ---- a pixel of which the coverage is not known, with that coverage
+-- ---- a pixel whose coverage is not known, completed by a coverage
 module _ (x : Pixel) (u : coverageAt x ≡ Unknown) where
   unmarked : coverageMarked (x .mark) ≡ false
   unmarked = go (coverageMarked (x .mark)) u
@@ -133,7 +133,7 @@ module _ (mode : RenderMode) (k : Combiner) (s : Source) (x : Pixel)
       go Unknown t = refl
       go (Known c) t = never t
 
-  -- what x may really be has one of the coverages 0 to 7, and its colour where that is known
+  -- over whatever x may really be, the colours are F3's over any coverage that overflows as its own does
   colors-really :
       (y : Pixel) → Completes y x → (c : ℕ) → overflow (s .count) (y .coverage) ≡ overflow (s .count) c → colorsAfter mode k s y ≡ colorsOver mode k s x c
   unfolding ruleF1 ruleF3
@@ -180,7 +180,7 @@ full-certain mode k s x forced eight there y q =
     (memoryOf (colorMarked (y .mark)) y) (memoryOf (colorMarked (x .mark)) x) (y .coverage) 7 there (memory-too y x (q .knows))
     (full-alone mode (s .color .a) (s .count) (y .coverage) forced eight) (full-alone mode (s .color .a) (s .count) 7 forced eight))
 
--- and where P is the memory's colour and that is not known, it is not: that colour may be black or white
+-- and where P is the memory's colour and that is not known, it is not: its red may be 0 or 255
 module _ (mode : RenderMode) (k : Combiner) (s : Source) (x : Pixel)
     (forced : mode .«force_blend» ≡ false) (eight : s .count ≡ 8) (low : orZero (coverageAt x) ≤ 7)
     (gone : missing (muxOf (mode .«blender_mux») .p) (colorMarked (x .mark)) ≡ true) where
@@ -220,9 +220,9 @@ module _ (mode : RenderMode) (k : Combiner) (s : Source) (x : Pixel)
   unfolding div ofInt mul lt
   full-uncertain v certain =
       let at : (r : ℕ) → v .red ≡ byteOf (unit r) = λ r. sym (ap (λ (c : Colors). c .red) (certain (withRed r) (red-completes r))) ∙ red-stays r in
-      let black : byteOf (unit 0) ≡ 0 = refl in
-      let white : byteOf (unit 255) ≡ 255 = refl in
-      let same : _≡_ {A = ℕ} 0 255 = sym black ∙ sym (at 0) ∙ at 255 ∙ white in
+      let none : byteOf (unit 0) ≡ 0 = refl in
+      let full : byteOf (unit 255) ≡ 255 = refl in
+      let same : _≡_ {A = ℕ} 0 255 = sym none ∙ sym (at 0) ∙ at 255 ∙ full in
       omega arith
 
 -- F2's doubt of such a pixel gives it up, whether F1 says yes or no

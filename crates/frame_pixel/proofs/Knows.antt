@@ -1,6 +1,6 @@
 -- Knowing more never changes what was known: if pixel y knows at least what pixel x knows, then it does so after a step. A yes of F1 and F2 on x is a yes on y with
 -- the same three bytes, and a coverage that F5 knows on x it knows on y, and is the same. For every mode, combiner, source and count, and for any bytes. F2 is what the
--- bytes need: where it has no doubt, the pixel is blended over every coverage that the memory may have, or over none. Assumes nothing.
+-- bytes need: where it has no doubt, P is stored as it is over every coverage that the memory may have, or over none. Assumes nothing.
 use Prim.Native.Nat.{ℕ, _-_, _≤_}
 use mathlib.Core.Path.{_≡_, refl, sym, ap, subst, _∙_}
 use mathlib.Core.Bool.{Bool, true, false, cond, not, _&&_, _||_}

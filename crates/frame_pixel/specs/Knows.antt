@@ -25,7 +25,7 @@ pub record AllKnownPixel (x : Pixel) : Type 0 where
   pub mark1 : colorMarked (x .mark) ≡ true
   pub mark2 : coverageMarked (x .mark) ≡ true
 
--- a pixel on the console, which knows all that it has: `blend`'s three bytes and `destination`'s coverage, of the bytes that stood there. No question of what is known
+-- a pixel on the console, on which nothing is unknown: `blend`'s three bytes and `destination`'s coverage, of the bytes that stood there. No question of what is known
 -- has a part in it
 unfoldable pub consoleStep : RenderMode → Combiner → Source → Pixel → Pixel
 consoleStep mode k s x =

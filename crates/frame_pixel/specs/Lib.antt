@@ -1,4 +1,4 @@
--- The definitions that the contracts of `frame_pixel` cite, and what it is for two pixels to be alike.
+-- The definitions that the contracts of `frame_pixel` cite; and those of the theorems: alike pixels, pixels of which one knows at least what the other knows, and what is certain.
 pub mod Marks
 pub mod Rules
 pub mod Coloring

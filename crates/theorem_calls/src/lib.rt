@@ -1,1 +1,1 @@
-// A list of calls on one frame, over which the theorems of the crates beside this one speak: specs/Calls.antt.
+// A list of calls on one frame, of which the theorems of the crates beside this one speak: specs/Calls.antt.

@@ -1,3 +1,3 @@
--- The theorem on whole lists of calls, and its laws.
+-- Demand 3's theorem, and its laws.
 pub mod Alike
 pub mod Runs

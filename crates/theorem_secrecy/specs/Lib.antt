@@ -1,2 +1,2 @@
--- The definitions of the theorem on whole lists of calls.
+-- The definitions of demand 3's theorem.
 pub mod Runs

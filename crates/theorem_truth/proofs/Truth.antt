@@ -1,6 +1,7 @@
 -- What is known is true. Of a call the theorem needs two facts, for frames of which g knows at least what f knows: its answer on g tells at least what the one on f
--- tells, and it leaves such frames. Parts 1 and 2 show them of a draw, proofs/Words of a word read and of a run of them, part 3 carries them along a list. A further kind
--- of call is a further clause with its two facts. Part 4 is the case that matters most: a frame on which everything is known. Assumes nothing.
+-- tells, and it leaves such frames. Parts 1 and 2 show them of a draw, proofs/Words of a word read and of a run of them, part 3 carries them along a list. Part 4 is the
+-- case that matters most: a frame on which everything is known. A further kind of call is a further clause of `keeps` with its two facts, and one in part 4 and in
+-- proofs/Console. Assumes nothing.
 use Prim.Native.Nat.{ℕ, zero, suc, _*_, _≤_, _<_}
 use mathlib.Core.Path.{_≡_, refl, sym, ap, subst, _∙_}
 use mathlib.Core.Bool.{Bool, true, false, cond, not, _&&_, _||_}

@@ -1,5 +1,5 @@
--- To be believed. A frame on which everything is known, as one that knows less may really be: the bytes that f's marks say are known, and any others where it knows
--- nothing. Definitions only. Source: docs/RULES.md, What is known is true.
+-- To be believed. What a frame may really be: the bytes that its marks say are known, any others where it knows nothing, and both marks everywhere. Definitions only.
+-- Source: docs/RULES.md, What is known is true.
 use Prim.Native.Nat.{ℕ, suc, _/_}
 use mathlib.Core.Bool.{Bool, true, false, cond}
 use mathlib.Core.List.{List, [], _∷_}

@@ -1,4 +1,4 @@
--- To be believed. A list of calls on the console, which knows all that it has: each emitted pixel of a draw stores `blend`'s bytes and `destination`'s coverage. Which draws
+-- To be believed. A list of calls on the console, on which nothing is unknown: each emitted pixel of a draw stores `blend`'s bytes and `destination`'s coverage. Which draws
 -- are accepted and what they emit are those of the port. Definitions only. Source: docs/RULES.md, What is known is true.
 use Prim.Native.Nat.{ℕ}
 use mathlib.Core.List.{List, [], _∷_}

@@ -1,4 +1,4 @@
--- Inner vocabulary. Wrong rules, each the step with one thing changed, and a small input on which it breaks the law of one pixel: F2 is needed, and so are the others.
+-- Inner vocabulary. Wrong rules, each the step with one thing changed, and a small input on which it breaks the law of one pixel, so that what each one changes is needed.
 -- Definitions only; that they break it is proofs/Wrong.
 use Prim.Native.Nat.{ℕ, _-_}
 use mathlib.Core.Bool.{Bool, true, false, cond, not, _&&_, _||_}
@@ -20,7 +20,7 @@ use Rattle.theorem_values.specs.Table.{mode, grey}
 
 -- ---- wrong steps
 
--- the step where F1 and F2 come down to this
+-- the step with this in place of the verdict of F1 and F2
 abbrev pub stepIf : Bool → RenderMode → Combiner → Source → Pixel → Pixel
 stepIf known mode k s x =
     assembled known (cond known (ruleF3 mode k s (coverageAt x) (memoryOf (colorMarked (x .mark)) x)) (ruleF4 x)) (coverageAfter mode s x) (x .coverage)
@@ -45,7 +45,7 @@ countStored mode n Unknown = cond (eqb (mode .«cvg_dst») 0 && not (mode .«for
 unfoldable pub countUnderAntialias : RenderMode → Combiner → Source → Pixel → Pixel
 countUnderAntialias mode k s x = assembled (knownAfter mode s x) (colorsAfter mode k s x) (countStored mode (s .count) (coverageAt x)) (x .coverage)
 
--- mark 2 set without its byte
+-- mark 2 set where F5 leaves the coverage unknown too, on the byte that stands there
 unfoldable pub markAlone : RenderMode → Combiner → Source → Pixel → Pixel
 markAlone mode k s x =
     let colors = colorsAfter mode k s x in
@@ -86,7 +86,7 @@ smooth = mode 0 false true 0
 abbrev pub saved : RenderMode
 saved = mode 3 false false 0
 
--- a black place of which nothing is known, one of which the colour is, and one of which everything is
+-- a black place of which nothing is known, one of which the colour is; and one of which everything is, with this red and coverage
 abbrev pub nothingKnown : Pixel
 nothingKnown = record { red = 0; green = 0; blue = 0; coverage = 0; mark = 0 }
 
