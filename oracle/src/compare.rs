@@ -39,7 +39,7 @@ impl Part {
     }
 }
 
-/// Counts by counts.
+/// Sums, place by place.
 pub fn added<const N: usize>(a: [u64; N], b: [u64; N]) -> [u64; N] {
     std::array::from_fn(|i| a[i] + b[i])
 }

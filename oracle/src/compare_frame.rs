@@ -1,9 +1,9 @@
 //! Lists of draws and word reads on the library's frame and on the one of frame.rs: every answer, and every byte of the
-//! three slices after each call. And the same lists on a frame that knows everything, and others on two frames that differ in
-//! unknown bytes (compare_known.rs).
+//! three slices after each call, and what the rules give up (given_up.rs). Other lists on two frames that differ in unknown
+//! bytes, and all of them on a frame that knows everything (compare_known.rs).
 
 use crate::compare::{added, Line, Part};
-use crate::compare_known::{two_runs, Call, Held, KnownFrame};
+use crate::compare_known::{known_frame, two_runs, Call, Held, KnownFrame};
 use crate::draws::{Frame, Step};
 use crate::frame::Branches;
 use crate::given_up::GivenUp;
@@ -95,6 +95,7 @@ pub fn lists(part: &Part) -> Result<Counts, String> {
         if number % 4 == 0 {
             let list = List::at_random(&mut inputs, Class::Small);
             counts.twin_calls += two_runs(&Library, &list, &mut inputs)?;
+            counts.held = counts.held + known_frame(&Library, &list, &mut inputs)?;
             counts.twins += 1;
         }
     }

@@ -158,9 +158,9 @@ impl KnownFrame {
 }
 
 /// The list on its frame and on one that knows everything, unless numbers 1 to 3 refuse its frame.
-pub fn known_frame(side: &impl Side, list: &List, inputs: &mut Inputs) -> Result<(), String> {
+pub fn known_frame(side: &impl Side, list: &List, inputs: &mut Inputs) -> Result<Held, String> {
     let Some(mut known) = KnownFrame::beside(&list.frame, inputs) else {
-        return Ok(());
+        return Ok(Held::default());
     };
     let mut frame = list.frame.clone();
     for step in &list.steps {
@@ -168,5 +168,5 @@ pub fn known_frame(side: &impl Side, list: &List, inputs: &mut Inputs) -> Result
         let answer = side.call(&mut frame, step);
         known.follow(side, &Call { step, before: &before, after: &frame, answer })?;
     }
-    known.finish(side, &frame, inputs).map(drop)
+    known.finish(side, &frame, inputs)
 }

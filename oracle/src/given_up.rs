@@ -11,9 +11,10 @@ use original::RenderMode;
 const REASONS: [&str; 4] = ["given up in doubt", "given up for P", "given up for M", "given up for the coverage"];
 
 /// What is counted of each reason.
-const COUNTS: [&str; 3] = ["colours", "certain of them", "with all samples and never blended"];
+const COUNTS: [&str; 3] = ["colours", "certain of them", "certain because never blended"];
 
-/// How many were left unknown, how many of them are certain, and how many of a colour's because the pixel is never blended.
+/// How many were left unknown, how many of them are certain, and, of colours, how many are certain because the pixel has all
+/// samples, is not forced and P is known.
 #[derive(Default)]
 pub struct GivenUp {
     /// By the number of the reason.
@@ -62,7 +63,7 @@ fn unblended(pen: &Pen, emitted: &Emitted, memory: Option<[u8; 3]>) -> bool {
     emitted.count == 8 || pen.stored(emitted, memory, 0) == pen.stored(emitted, memory, 7)
 }
 
-/// A pixel with all samples that is not forced is never blended, so that it is certain wherever P is known.
+/// Certain because never blended: all samples, not forced, and P known.
 fn never_blended(pen: &Pen, emitted: &Emitted, memory: Option<[u8; 3]>) -> bool {
     let [p, ..] = pen.selectors();
     emitted.count == 8 && !pen.mode.force_blend && (p != 1 || memory.is_some())

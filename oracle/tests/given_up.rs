@@ -1,4 +1,5 @@
 //! Which coverages F5 leaves unmarked although memory keeps the same one, whatever it had: all of what `destination` looks at.
+//! And that a coverage which F5 marks is the one that memory keeps, whatever it had.
 
 use oracle::frame::covered;
 use oracle::given_up::certain_coverage;

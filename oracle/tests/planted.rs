@@ -23,7 +23,7 @@ enum Fault {
     ColorZeros,
     /// F5 with cvg_dst 0 makes an unmarked coverage count - 1, and marked, under antialias, too.
     CountMarked,
-    /// F5 marks an unmarked coverage and leaves its byte.
+    /// Where F5 marks an unmarked coverage, its byte stays.
     MarkAlone,
     /// A word read passes an unmarked coverage as 0 instead of turning the read away.
     ReadZero,
@@ -116,7 +116,7 @@ fn by_two_runs(fault: Option<Fault>) -> Option<u64> {
 }
 
 fn by_known_frame(fault: Option<Fault>) -> Option<u64> {
-    noticed(|list, inputs| known_frame(&Planted(fault), list, inputs))
+    noticed(|list, inputs| known_frame(&Planted(fault), list, inputs).map(drop))
 }
 
 #[test]
