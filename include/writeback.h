@@ -283,7 +283,7 @@ wb_drawn wb_draw(uint32_t width, uint32_t height, uint8_t *colors, size_t colors
                  const uint8_t *present, size_t present_len, const uint32_t *indices, size_t indices_len);
 
 /* The two bytes of a pixel's word, the first lowest, or why the read was turned away: 1 to 3 and 8 to 10. A word that is answered does not turn
- * on what is not known, and is the one of a frame on which everything is known (docs/THEOREMS.md). */
+ * on what is not known: it is the word of every frame that has the same known bytes and knows the rest (docs/THEOREMS.md). */
 wb_answer wb_read_word(uint32_t width, uint32_t height, const uint8_t *colors, size_t colors_len, const uint8_t *coverages, size_t coverages_len,
                        const uint8_t *marks, size_t marks_len, size_t pixel, uint8_t fmt, uint8_t siz, uint8_t rgb_dither, bool big_endian);
 

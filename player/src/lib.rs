@@ -41,8 +41,8 @@
 //!
 //! What the library's calls answer and write is proved on every input, refused ones too; docs/THEOREMS.md of the repository
 //! says of each what. Of whole lists of draws and word reads it is proved that what is not known shows in no answer, and that
-//! each word which is answered is the one of a frame on which everything is known. This crate, which hands values over to the
-//! calls (module `ffi`) and back, is tested and not proved.
+//! each word which is answered is the one of every frame that has the same known bytes and knows the rest. This crate, which
+//! hands values over to the calls (module `ffi`) and back, is tested and not proved.
 #![deny(missing_docs, unsafe_code)]
 
 mod draw;
