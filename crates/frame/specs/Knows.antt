@@ -14,7 +14,7 @@ pub record KnowsFrame (g f : Frame) : Type 0 where
   pub marks : length (g .marks) ≡ length (f .marks)
   pub pixels : (p : ℕ) → KnowsPixel (pixelAt g p) (pixelAt f p)
 
--- g knows at least what f knows, as frames of w by h pixels: and numbers 1 to 3 say the same of both, so that they let both through or turn both away with one number
+-- g knows at least what f knows, as frames of w by h pixels: besides, numbers 1 to 3 say the same of both, so that they let both through or turn both away alike
 pub record KnowsAtLeast (w h : ℕ) (g f : Frame) : Type 0 where
   pub frame : KnowsFrame g f
   pub numbers : frameRefusal g w h ≡ frameRefusal f w h

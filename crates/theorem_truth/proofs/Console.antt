@@ -12,7 +12,7 @@ use Rattle.raster_pixel.specs.Emitted.{Emit}
 use Rattle.raster_pixel.proofs.Placed.{Placed}
 use Rattle.frame.specs.Frame.{Frame, pixelAt, putPixel}
 use Rattle.frame.specs.Checks.{frameRefusal}
-use Rattle.frame.specs.Knows.{AllKnown}
+use Rattle.frame.specs.Knows.{KnowsAtLeast, AllKnown}
 use Rattle.frame_paint.specs.Steps.{sourceOf, stepFrame, drawList}
 use Rattle.frame_paint.proofs.Fits.{step-marks}
 use Rattle.frame_draw.specs.Draw.{DrawArgs, Plan, planOf, frameBy, drawFrame}
@@ -23,7 +23,7 @@ use Rattle.theorem_calls.specs.Calls.{Call, frameAfter, frameAfterAll}
 use Rattle.theorem_truth.specs.Completed.{completed}
 use Rattle.theorem_truth.specs.Console.{consoleList, consoleBy, consoleAfter, consoleAfterAll}
 use Rattle.theorem_truth.proofs.Truth.{true-word, true-entry, step-all-known, draw-all-known}
-use Rattle.theorem_truth.proofs.Completed.{completed-all-known, completed-knows}
+use Rattle.theorem_truth.proofs.Completed.{completed-all-known, completed-knows, completed-truth}
 
 -- ---- a draw
 module _ (mode : RenderMode) (k : Combiner) where
@@ -70,6 +70,10 @@ module _ (f : Frame) (colors coverages : ℕ → ℕ) (w h : ℕ) (low : (p : �
 
   is-console : frameAfterAll w h os (completed f colors coverages) ≡ console
   is-console = console-after w h os (completed f colors coverages) (completed-all-known f colors coverages)
+
+  -- What is marked known after a list is what the console has there.
+  pub console-knows : KnowsAtLeast w h console (frameAfterAll w h os f)
+  console-knows = subst (λ (g : Frame). KnowsAtLeast w h g (frameAfterAll w h os f)) is-console (completed-truth f colors coverages w h low e os .knows)
 
   -- Every word that is handed out after a list is the word that the console would hand out, whatever the bytes really were that were not known.
   pub console-word :
