@@ -19,7 +19,7 @@ use Rattle.blender.specs.Coverage.{overflows, blends}
 use Rattle.blender.specs.Known.{reject, alone, missing, anyCoverage, whereUnknown, colorKnown}
 use Rattle.blender.specs.Layer.{opaqueOf, ownOf, layeredOf, steadyOf, layerOf}
 use Rattle.blender.specs.Blend.{f8, sourceOf, factorA, factorB, mixedOf, bytesOf, blendOf}
-use Rattle.blender.proofs.Tests.{never, both-left, both-right}
+use Rattle.num_float.proofs.Tests.{never, both-left, both-right}
 use Rattle.blender.proofs.Solid.{own-source}
 use Rattle.blender.proofs.Knows.{full-alone}
 

@@ -12,7 +12,7 @@ use Rattle.blender.specs.declared.Coverage.the-variants.{Known}
 use Rattle.blender.specs.Mux.{pick}
 use Rattle.blender.specs.Coverage.{overflow, blends, clampOf, destinationOf}
 use Rattle.blender.specs.Settled.{settled}
-use Rattle.blender.proofs.Tests.{never}
+use Rattle.num_float.proofs.Tests.{never}
 
 -- seven or eight samples
 seven : (n : ℕ) (f : Bool) → (eqb n 8 || (f && eqb n 7)) ≡ true → 7 ≤ n

@@ -15,7 +15,7 @@ use Rattle.blender.specs.Coverage.{overflows, blends}
 use Rattle.blender.specs.Known.{reject, alone, missing, anyCoverage, whereUnknown, colorKnown}
 use Rattle.blender.specs.Layer.{opaqueOf, ownOf}
 use Rattle.blender.specs.Blend.{sourceOf, factorA, factorB, mixedOf, bytesOf, blendOf}
-use Rattle.blender.proofs.Tests.{never}
+use Rattle.num_float.proofs.Tests.{never}
 
 -- what is said of a pixel that is opaque
 pub record Opaque (mode : RenderMode) (alpha : Float) : Type 0 where

@@ -12,7 +12,7 @@ use lib.ListN.{length, getD, set, length-set}
 use Rattle.frame_pixel.specs.declared.Pixel.{Pixel}
 use Rattle.frame_pixel.specs.Marks.{highestMark, coverageMarked, coverageOf}
 use Rattle.blender.specs.Blend.{orZero}
-use Rattle.blender.proofs.Tests.{both-left, both-right}
+use Rattle.num_float.proofs.Tests.{both-left, both-right}
 use Rattle.blender.specs.declared.Coverage.the-variants.{Unknown, Known}
 use Rattle.frame.specs.Frame.{Frame, putPixel}
 use Rattle.frame.specs.Fits.{Fit}

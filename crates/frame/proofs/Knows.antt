@@ -13,7 +13,7 @@ use lib.Seq.{getD-set-same, getD-set-other}
 use Rattle.frame_pixel.specs.declared.Pixel.{Pixel}
 use Rattle.frame_pixel.specs.Marks.{colorMarked, coverageMarked}
 use Rattle.frame_pixel.specs.Knows.{KnowsPixel, AllKnownPixel}
-use Rattle.blender.proofs.Tests.{never}
+use Rattle.num_float.proofs.Tests.{never}
 use Rattle.frame.specs.Frame.{Frame, pixelAt, putPixel}
 use Rattle.frame.specs.Knows.{KnowsFrame, AllKnown}
 

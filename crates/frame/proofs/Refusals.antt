@@ -16,7 +16,7 @@ use Rattle.frame_pixel.specs.Marks.{highestMark, coverageMarked}
 use Rattle.frame.specs.Frame.{Frame}
 use Rattle.frame.specs.Checks.{sizeOk, sizesOk, lengthsOk, markOk, marksOk, frameRefusal}
 use Rattle.frame.specs.Finding.{every, atMost, coverageUnmarked}
-use Rattle.blender.proofs.Tests.{both-left, both-right}
+use Rattle.num_float.proofs.Tests.{both-left, both-right}
 use Rattle.frame.proofs.Fits.{pixels-le}
 
 together : (a b c : Bool) → ((a && b) && c) ≡ (a && (b && c))

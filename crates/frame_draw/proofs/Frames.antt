@@ -45,6 +45,15 @@ module _ (d : DrawArgs) (w h : ℕ) where
       go zero = made-placed (newOf (d .uniform) (d .mode))
       go (suc r) = Placed.none
 
+-- the frame enters a plan only by numbers 1 to 3
+pub plan-same : (d : DrawArgs) (w h : ℕ) (f g : Frame) → frameRefusal f w h ≡ frameRefusal g w h → planOf d w h f ≡ planOf d w h g
+unfolding planOf entryRefusal
+plan-same d w h f g e = rw e
+
+pub draw-same : (d : DrawArgs) (w h : ℕ) (f g : Frame) → frameRefusal f w h ≡ frameRefusal g w h → drawAnswer d w h f ≡ drawAnswer d w h g
+unfolding drawAnswer
+draw-same d w h f g e = ap answerBy (plan-same d w h f g e)
+
 module _ (d : DrawArgs) (w h : ℕ) (f : Frame) where
   -- of a frame that numbers 1 to 3 refuse, the plan is their number
   refused-plan : {r : ℕ} → frameRefusal f w h ≡ suc r → planOf d w h f ≡ Plan.refuse (suc r)

@@ -10,7 +10,7 @@ use borrow.Author.Tests.{leb-true}
 use lib.Dec.{leb, eqb}
 use lib.Ieee.{Float}
 use lib.ListN.{length}
-use Rattle.raster_vertex.proofs.Ranked.{and-first, and-second}
+use Rattle.num_float.proofs.Tests.{both-left, both-right}
 use Rattle.combiner.specs.declared.Combiner.{Combiner}
 use Rattle.combiner.specs.declared.Made.{Made}
 use Rattle.combiner.specs.declared.Made.the-variants as made
@@ -110,8 +110,8 @@ module _ (f : Frame) (w h : ℕ) (s : Scissor) (vs : List Float) (ps is : List �
       let three = flagsOk ps && four in
       let two = eqb (length vs) (6 * length ps) && three in
       leb-true (length is) 12288
-      (and-second (eqb (length is % 3) 0) last
-      (and-second (flagsOk ps) four (and-second (eqb (length vs) (6 * length ps)) three (and-second (leb (length ps) 4096) two p))))
+      (both-right (eqb (length is % 3) 0) last
+      (both-right (flagsOk ps) four (both-right (eqb (length vs) (6 * length ps)) three (both-right (leb (length ps) 4096) two p))))
 
   sized-by : w ≤ 1024 → h ≤ 1024 → scissorOk s ≡ true → Sized s w h
   unfolding scissorOk
@@ -120,15 +120,15 @@ module _ (f : Frame) (w h : ℕ) (s : Scissor) (vs : List Float) (ps is : List �
       let t = leb (s .top) 65535 in
       let x = leb (s .width) 65535 in
       let y = leb (s .height) 65535 in
-      let p₂ : (t && (x && y)) ≡ true = and-second l (t && (x && y)) p in
-      let p₃ : (x && y) ≡ true = and-second t (x && y) p₂ in
+      let p₂ : (t && (x && y)) ≡ true = both-right l (t && (x && y)) p in
+      let p₃ : (x && y) ≡ true = both-right t (x && y) p₂ in
       record {
         width-small = a;
         height-small = b;
-        left-small = leb-true (s .left) 65535 (and-first l (t && (x && y)) p);
-        top-small = leb-true (s .top) 65535 (and-first t (x && y) p₂);
-        across-small = leb-true (s .width) 65535 (and-first x y p₃);
-        down-small = leb-true (s .height) 65535 (and-second x y p₃);
+        left-small = leb-true (s .left) 65535 (both-left l (t && (x && y)) p);
+        top-small = leb-true (s .top) 65535 (both-left t (x && y) p₂);
+        across-small = leb-true (s .width) 65535 (both-left x y p₃);
+        down-small = leb-true (s .height) 65535 (both-right x y p₃);
       }
 
   entered-by : (k : ℕ) → k ≡ frameRefusal f w h → (b : Bool) → scissorOk s ≡ b → (c : Bool) → inputsOk vs ps is ≡ c → orElse k (cond b (cond c 0 5) 4) ≡ 0 → Entered

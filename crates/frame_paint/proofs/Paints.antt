@@ -24,7 +24,7 @@ use Rattle.frame_pixel.specs.declared.full.Full.{Full}
 use Rattle.frame_pixel.specs.Rules.{pixelStep}
 use Rattle.frame_pixel.specs.Coloring.{colorsOf, ownColors}
 use Rattle.frame_pixel.specs.Full.{FullOf}
-use Rattle.blender.proofs.Tests.{never, both-left, both-right}
+use Rattle.num_float.proofs.Tests.{never, both-left, both-right}
 use Rattle.frame_pixel.proofs.Colorings.{opaque-step, unshaded-step}
 use Rattle.raster_edges.specs.Sample.{countOf}
 use Rattle.raster_pixel.specs.Emitted.{Emit}

@@ -9,7 +9,7 @@ use Rattle.combiner.specs.declared.Combiner.{Combiner}
 use Rattle.blender.specs.declared.Coverage.{Coverage}
 use Rattle.blender.specs.declared.Coverage.the-variants.{Unknown, Known}
 use Rattle.blender.specs.declared.Source.{Source}
-use Rattle.blender.proofs.Tests.{never}
+use Rattle.num_float.proofs.Tests.{never}
 use Rattle.frame_pixel.specs.declared.Pixel.{Pixel}
 use Rattle.frame_pixel.specs.declared.Colors.{Colors}
 use Rattle.frame_pixel.specs.Marks.{highestMark, colorMarked, coverageMarked, coverageOf, unknown, markOf}

@@ -26,7 +26,7 @@ use Rattle.frame_pixel.specs.declared.Colors.{Colors}
 use Rattle.frame_pixel.specs.Marks.{colorMarked, coverageMarked, unknown}
 use Rattle.frame_pixel.specs.Rules.{ruleF1, ruleF2, unit, memoryOf, ruleF3, freshCoverage, ruleF5, coverageAt, knownAfter, colorsAfter, coverageAfter}
 use Rattle.frame_pixel.specs.Certain.{Completes, CertainColors, CertainCoverage, coverageGivenUp, colorsOver, SameAtEnds}
-use Rattle.blender.proofs.Tests.{never, both-left, both-right}
+use Rattle.num_float.proofs.Tests.{never, both-left, both-right}
 use Rattle.frame_pixel.proofs.Knows.{memory-too, same-colors, coverage-too, all-covered, all-colors}
 
 -- ---- what is known is certain

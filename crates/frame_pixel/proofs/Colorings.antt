@@ -26,7 +26,7 @@ use Rattle.frame_pixel.specs.declared.Colored.{Colored}
 use Rattle.frame_pixel.specs.declared.Colors.{Colors}
 use Rattle.frame_pixel.specs.Marks.{colorMarked, unknown}
 use Rattle.frame_pixel.specs.Rules.{ruleF1, ruleF2, memoryOf, ruleF3, ruleF4, coverageAt, knownAfter, colorsAfter, coverageAfter, assembled, pixelStep}
-use Rattle.blender.proofs.Tests.{never}
+use Rattle.num_float.proofs.Tests.{never}
 use Rattle.frame_pixel.specs.Coloring.{ownColors, overColors, coloredOf}
 
 and-false : (b : Bool) → (b && false) ≡ false

@@ -24,7 +24,7 @@ use Rattle.frame_pixel.specs.Marks.{colorMarked, coverageMarked}
 use Rattle.frame_pixel.specs.Rules.{ruleF1, ruleF2, memoryOf, ruleF3, ruleF4, freshCoverage, ruleF5, coverageAt, knownAfter, colorsAfter, coverageAfter, assembled, pixelStep}
 use Rattle.frame_pixel.specs.Coloring.{ownColors, overColors}
 use Rattle.frame_pixel.specs.Full.{isFull, FullOf, Enough, fullCoverage, fullWith, fullStep}
-use Rattle.blender.proofs.Tests.{never}
+use Rattle.num_float.proofs.Tests.{never}
 use Rattle.frame_pixel.proofs.Colorings.{where-known, opaque-yes, opaque-colors, layered-known, layered-colors}
 
 -- ---- F5 with all eight samples, by what it makes of coverage 0 and of an unknown one

@@ -25,7 +25,7 @@ use Rattle.frame_pixel.specs.declared.Colors.{Colors}
 use Rattle.frame_pixel.specs.Marks.{colorMarked, coverageMarked, markOf}
 use Rattle.frame_pixel.specs.Rules.{ruleF1, ruleF2, memoryOf, ruleF3, ruleF4, freshCoverage, ruleF5, coverageAt, knownAfter, colorsAfter, coverageAfter, assembled, pixelStep}
 use Rattle.frame_pixel.specs.Knows.{KnowsPixel, AllKnownPixel, consoleStep}
-use Rattle.blender.proofs.Tests.{never, both-left, both-right}
+use Rattle.num_float.proofs.Tests.{never, both-left, both-right}
 use Rattle.frame_pixel.proofs.Alike.{color-after, covered-after, colors-after}
 
 -- ---- what is known of two coverages, by their marks and bytes

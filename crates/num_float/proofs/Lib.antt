@@ -1,4 +1,5 @@
--- What several proofs of `num_float` share.
+-- What several proofs of `num_float` share, and laws of Booleans, which other crates cite too.
+pub mod Tests
 pub mod Values
 pub mod Scaled
 pub mod Cut

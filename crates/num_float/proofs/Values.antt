@@ -10,14 +10,7 @@ use lib.Dec.{eqb}
 use lib.Ieee.{Float, nan, inf, fin, binary32, up, down, eq, le, div}
 use lib.Ieee.Fits.{up-pos, down-pos}
 use Rattle.num_float.specs.Color.{negative, f0, f1}
-
-and-first : (a b : Bool) → (a && b) ≡ true → a ≡ true
-and-first true b h = refl
-and-first false b h = absurd (true≢false (sym h))
-
-and-second : (a b : Bool) → (a && b) ≡ true → b ≡ true
-and-second true b h = h
-and-second false b h = absurd (true≢false (sym h))
+use Rattle.num_float.proofs.Tests.{both-left, both-right}
 
 -- a product of three that is 0, the last two being above 0
 zero-of : (n u d : ℕ) → 0 < u → 0 < d → n * u * d ≡ 0 → n ≡ 0
@@ -40,7 +33,7 @@ same-sign (fin s m e) (inf t) h z = absurd (true≢false (sym h))
 same-sign (fin true m e) (fin t n d) h z = refl
 same-sign (fin false m e) (fin false n d) h z = refl
 same-sign (fin false m e) (fin true n d) h z =
-    let m0 = zero-of m (up e) (down d) (up-pos e) (down-pos d) (eqb-true _ 0 (and-second (eqb (m * up e * down d) (n * up d * down e)) (eqb (m * up e * down d) 0) h)) in
+    let m0 = zero-of m (up e) (down d) (up-pos e) (down-pos d) (eqb-true _ 0 (both-right (eqb (m * up e * down d) (n * up d * down e)) (eqb (m * up e * down d) 0) h)) in
     let is : eqb (m * up e * 1) (0 * down e) ≡ true = eq-eqb (m * up e * 1) (0 * down e) (zeros m (up e) 1 m0 ∙ sym (zero-mul (down e))) in
     absurd (true≢false (sym (ap (λ (b : Bool). b && true) is) ∙ z))
 
@@ -66,6 +59,6 @@ zeros-by-sign (inf s) b h z = absurd (true≢false (sym z))
 zeros-by-sign (fin s m e) nan h z = absurd (true≢false (sym h))
 zeros-by-sign (fin s m e) (inf t) h z = absurd (true≢false (sym h))
 zeros-by-sign (fin s m e) (fin t n d) h z =
-    let m0 = zero-of m (up e) 1 (up-pos e) (pow-pos 0) (eqb-true _ (0 * down e) (and-first (eqb (m * up e * 1) (0 * down e)) _ z) ∙ zero-mul (down e)) in
-    let n0 = zero-of n (up d) (down e) (up-pos d) (down-pos e) (sym (eqb-true _ _ (and-first (eqb (m * up e * down d) (n * up d * down e)) _ h)) ∙ zeros m (up e) (down d) m0) in
+    let m0 = zero-of m (up e) 1 (up-pos e) (pow-pos 0) (eqb-true _ (0 * down e) (both-left (eqb (m * up e * 1) (0 * down e)) _ z) ∙ zero-mul (down e)) in
+    let n0 = zero-of n (up d) (down e) (up-pos d) (down-pos e) (sym (eqb-true _ _ (both-left (eqb (m * up e * down d) (n * up d * down e)) _ h)) ∙ zeros m (up e) (down d) m0) in
     simp (by-zero s m e m0, by-zero t n d n0) (inf-order s t)

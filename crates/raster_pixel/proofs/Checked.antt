@@ -13,7 +13,7 @@ use Rattle.combiner.specs.declared.Combiner.{Combiner}
 use Rattle.raster_vertex.specs.declared.Vertex.{Vertex}
 use Rattle.raster_vertex.specs.Range.{inRange}
 use Rattle.raster_vertex.specs.Sorted.{sorted}
-use Rattle.raster_vertex.proofs.Ranked.{and-first, and-second}
+use Rattle.num_float.proofs.Tests.{both-left, both-right}
 use Rattle.raster_vertex.proofs.Quarters.{quarter-x, quarter-y}
 use Rattle.raster_vertex.proofs.Ordered.{Each, InRange, sorted-length, sorted-each}
 use Rattle.raster_edges.specs.Limits.{Near, AllNear}
@@ -63,13 +63,13 @@ module _ (p : ℕ → Bool) (i n : ℕ) where
 pub all-at : (p : ℕ → Bool) (n i : ℕ) → all p n i ≡ true → (j : ℕ) → i ≤ j → j < i + n → p j ≡ true
 unfolding all
 all-at p zero i h j a b = absurd (omega arith)
-all-at p (suc n) i h j a b = by (decLe (i + 1) j) (λ k. all-at p n (i + 1) (and-second (p i) (all p n (i + 1)) h) j k (omega arith))
+all-at p (suc n) i h j a b = by (decLe (i + 1) j) (λ k. all-at p n (i + 1) (both-right (p i) (all p n (i + 1)) h) j k (omega arith))
   where
     by : Dec (i + 1 ≤ j) → (i + 1 ≤ j → p j ≡ true) → p j ≡ true
     by (yes k) later = later k
     by (no k) later =
         let e : j ≡ i = omega arith in
-        ap p e ∙ and-first (p i) (all p n (i + 1)) h
+        ap p e ∙ both-left (p i) (all p n (i + 1)) h
 
 -- ---- a triangle with no failing check: its vertices are there and in range
 abbrev pub AllIn : Three → Type 0

@@ -5,7 +5,7 @@ use Prim.Native.Nat.{ℕ, _-_, _*_, _^_, _≤_, _<_}
 use native.Mathlib.Omega.{arith}
 use lib.Dec.{ltb, leb}
 use borrow.Author.Tests.{ltb-true}
-use Rattle.raster_vertex.proofs.Ranked.{and-first}
+use Rattle.num_float.proofs.Tests.{both-left, both-right}
 use Rattle.raster_edges.specs.declared.Edges.{Edges}
 use Rattle.raster_edges.specs.Sample.{maskOf, countOf}
 use Rattle.raster_edges.proofs.Ones as ones
@@ -32,4 +32,4 @@ rect-lt s x y = omega (arith, bit 0 0, bit 0 1, bit 1 0, bit 1 1, bit 2 0, bit 2
 -- ---- that of a pixel that is emitted
 -- one that is shown has 1 to 8 samples
 pub shown-count : (antialias : Bool) (mask : ℕ) → mask < 256 → shown antialias mask ≡ true → (1 ≤ countOf mask) × (countOf mask ≤ 8)
-shown-count antialias mask l h = ones.count-range mask (ltb-true 0 mask (and-first (ltb 0 mask) (antialias || leb 128 mask) h)) l
+shown-count antialias mask l h = ones.count-range mask (ltb-true 0 mask (both-left (ltb 0 mask) (antialias || leb 128 mask) h)) l

@@ -14,7 +14,8 @@ use Rattle.num_float.specs.Whole.{quarterOf}
 use Rattle.raster_vertex.specs.declared.Vertex.{Vertex}
 use Rattle.raster_vertex.specs.Range.{within, inRangeX, inRangeY, inRange}
 use Rattle.raster_vertex.specs.Sorted.{vertexAt, atOrBefore, insert, sorted}
-use Rattle.raster_vertex.proofs.Ranked.{and-first, and-second, total-or}
+use Rattle.num_float.proofs.Tests.{both-left, both-right}
+use Rattle.raster_vertex.proofs.Ranked.{total-or}
 use Rattle.raster_vertex.proofs.Quarters.{quarter-mono}
 
 -- what holds of each of two lists, if the test picks that one, holds of the one that it picks
@@ -122,8 +123,8 @@ InRange v = inRange v ≡ true
 
 placed : (v : Vertex) → InRange v → Placed v
 placed v h = (
-  between true 1 (pos 10) false 4095 (negsuc 1) (v .x) (and-first (inRangeX (v .x)) (inRangeY (v .y)) h),
-  between true 1 (pos 11) false 8191 (negsuc 1) (v .y) (and-second (inRangeX (v .x)) (inRangeY (v .y)) h),
+  between true 1 (pos 10) false 4095 (negsuc 1) (v .x) (both-left (inRangeX (v .x)) (inRangeY (v .y)) h),
+  between true 1 (pos 11) false 8191 (negsuc 1) (v .y) (both-right (inRangeX (v .x)) (inRangeY (v .y)) h),
 )
 
 each-placed : (vs : List Vertex) → Each InRange vs → Each Placed vs
@@ -136,7 +137,7 @@ unfolding atOrBefore
 sorted-y vs rs k h =
     let a = vertexAt (sorted vs) k in
     let b = vertexAt (sorted vs) (suc k) in
-    and-first (totalLe (a .y) (b .y)) _ (order-at (sorted vs) (sorted-order vs (each-placed vs rs)) k (subst (λ (n : ℕ). suc k < n) (sym (sorted-length vs)) h))
+    both-left (totalLe (a .y) (b .y)) _ (order-at (sorted vs) (sorted-order vs (each-placed vs rs)) k (subst (λ (n : ℕ). suc k < n) (sym (sorted-length vs)) h))
 
 -- .. and in quarter units.
 pub sorted-quarters : (vs : List Vertex) → Each InRange vs → (k : ℕ) → suc k < length vs → quarterOf (vertexAt (sorted vs) k .y) ≤ℤ quarterOf (vertexAt (sorted vs) (suc k) .y)

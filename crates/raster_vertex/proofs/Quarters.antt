@@ -13,10 +13,11 @@ use lib.Ieee.Fits.{down-pos}
 use lib.Ieee.Nearest.{div-mono}
 use Rattle.num_float.specs.Color.{totalLe}
 use Rattle.num_float.specs.Whole.{near, quarterOf}
+use Rattle.num_float.proofs.Tests.{both-left, both-right}
 use Rattle.num_float.proofs.Cut.{near-halves}
 use Rattle.raster_vertex.specs.declared.Vertex.{Vertex}
 use Rattle.raster_vertex.specs.Range.{within, inRangeX, inRangeY, inRange}
-use Rattle.raster_vertex.proofs.Ranked.{Rank, and-first, and-second, total-rank, le-rank}
+use Rattle.raster_vertex.proofs.Ranked.{Rank, total-rank, le-rank}
 
 -- ---- rounding keeps an order
 near-mono : (a b c d : ℕ) → 0 < b → 0 < d → a * d ≤ c * b → near a b ≤ near c d
@@ -96,17 +97,17 @@ within-size k h nan b w = absurd (false≢true w)
 within-size k h (inf true) b w = absurd (false≢true w)
 within-size k h (inf false) b w = absurd (false≢true w)
 within-size k h (fin false m e) b w =
-    let r : m * up e * 4 ≤ h * 1 * down e = le-rank false m e h (negsuc 1) (and-second (le (fin true 1 (pos k)) (fin false m e)) (le (fin false m e) (fin false h (negsuc 1))) w) in
+    let r : m * up e * 4 ≤ h * 1 * down e = le-rank false m e h (negsuc 1) (both-right (le (fin true 1 (pos k)) (fin false m e)) (le (fin false m e) (fin false h (negsuc 1))) w) in
     let n : near (m * up e * 4) (down e) ≤ h = near-one (m * up e * 4) (down e) h (down-pos e) (omega (arith, mul-one h)) in
     omega arith
 within-size k h (fin true m e) b w =
-    let r : m * up e * 1 ≤ 1 * 2 ^ k * down e = le-rank true 1 (pos k) m e (and-first (le (fin true 1 (pos k)) (fin true m e)) (le (fin true m e) (fin false h (negsuc 1))) w) in
+    let r : m * up e * 1 ≤ 1 * 2 ^ k * down e = le-rank true 1 (pos k) m e (both-left (le (fin true 1 (pos k)) (fin true m e)) (le (fin true m e) (fin false h (negsuc 1))) w) in
     let n : near (m * up e * 4) (down e) ≤ 2 ^ k * 4 = near-one (m * up e * 4) (down e) (2 ^ k * 4) (down-pos e) (omega (arith, mul-one (m * up e), one-mul (2 ^ k), mul-right-comm (2 ^ k) 4 (down e))) in
     omega (arith, signed-size true (size m e))
 
 -- The coordinates of a vertex in range, in quarter units, are at most 4096 and 8192 either way.
 pub quarter-x : (v : Vertex) → inRange v ≡ true → natAbs (quarterOf (v .x)) ≤ 4096
-quarter-x v h = within-size 10 4095 (v .x) (omega arith) (and-first (inRangeX (v .x)) (inRangeY (v .y)) h)
+quarter-x v h = within-size 10 4095 (v .x) (omega arith) (both-left (inRangeX (v .x)) (inRangeY (v .y)) h)
 
 pub quarter-y : (v : Vertex) → inRange v ≡ true → natAbs (quarterOf (v .y)) ≤ 8192
-quarter-y v h = within-size 11 8191 (v .y) (omega arith) (and-second (inRangeX (v .x)) (inRangeY (v .y)) h)
+quarter-y v h = within-size 11 8191 (v .y) (omega arith) (both-right (inRangeX (v .x)) (inRangeY (v .y)) h)

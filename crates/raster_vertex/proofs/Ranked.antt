@@ -9,14 +9,7 @@ use lib.IntN.{ℤ}
 use lib.Dec.{ltb, eqb}
 use lib.Ieee.{Float, nan, inf, fin, up, down, below, level, lt, eq, le}
 use Rattle.num_float.specs.Color.{isFinite, totalLe}
-
-pub and-first : (p q : Bool) → (p && q) ≡ true → p ≡ true
-and-first true q h = refl
-and-first false q h = h
-
-pub and-second : (p q : Bool) → (p && q) ≡ true → q ≡ true
-and-second true q h = h
-and-second false q h = absurd (false≢true h)
+use Rattle.num_float.proofs.Tests.{both-left, both-right}
 
 or-first : (p q : Bool) → (p || q) ≡ false → p ≡ false
 or-first true q h = h
@@ -42,11 +35,11 @@ abbrev ranked : Bool → ℕ → Bool → ℕ → Bool
 ranked s a t b = below s a t b || (level s a t b && (s || not t))
 
 equal : (a b : ℕ) (q r : Bool) → (eqb a b && q && r) ≡ true → a ≡ b
-equal a b q r h = eqb-true a b (and-first (eqb a b) q (and-first (eqb a b && q) r h))
+equal a b q r h = eqb-true a b (both-left (eqb a b) q (both-left (eqb a b && q) r h))
 
 rank : (s : Bool) (a : ℕ) (t : Bool) (b : ℕ) → ranked s a t b ≡ true → Rank s a t b
 rank false a false b h = at-most a b (ltb a b) (eqb a b && true && true) refl (equal a b true true) h
-rank false a true b h = absurd (false≢true (and-second (level false a true b) false h))
+rank false a true b h = absurd (false≢true (both-right (level false a true b) false h))
 rank true a false b h = tt
 rank true a true b h = at-most b a (ltb b a) (eqb a b && true && true) refl (λ e. sym (equal a b true true e)) h
 
@@ -73,11 +66,11 @@ unfolding le lt eq
 le-rank false m e n d h =
     let a = m * up e * down d in
     let b = n * up d * down e in
-    at-most a b (ltb a b) (eqb a b && true) refl (λ q. eqb-true a b (and-first (eqb a b) true q)) h
+    at-most a b (ltb a b) (eqb a b && true) refl (λ q. eqb-true a b (both-left (eqb a b) true q)) h
 le-rank true m e n d h =
     let a = m * up e * down d in
     let b = n * up d * down e in
-    at-most b a (ltb b a) (eqb a b && true) refl (λ q. sym (eqb-true a b (and-first (eqb a b) true q))) h
+    at-most b a (ltb b a) (eqb a b && true) refl (λ q. sym (eqb-true a b (both-left (eqb a b) true q))) h
 
 -- Of two finite floats one is at or before the other.
 pub total-or : (a b : Float) → isFinite a ≡ true → isFinite b ≡ true → totalLe a b ≡ false → totalLe b a ≡ true

@@ -24,9 +24,8 @@ use Rattle.raster_pixel.proofs.Placed.{Placed}
 use Rattle.frame.specs.Frame.{Frame, pixelAt}
 use Rattle.frame_paint.specs.Steps.{sourceOf, stepFrame, drawList}
 use Rattle.frame.specs.Checks.{frameRefusal, orElse}
-use Rattle.frame_draw.specs.Checks.{entryRefusal}
-use Rattle.frame_draw.specs.Draw.{DrawArgs, Plan, planOf, answerBy, frameBy, drawAnswer, drawFrame}
-use Rattle.frame_draw.proofs.Frames.{pixelsOf, plan-marked}
+use Rattle.frame_draw.specs.Draw.{DrawArgs, Plan, planOf, frameBy, drawFrame}
+use Rattle.frame_draw.proofs.Frames.{pixelsOf, plan-same, draw-same, plan-marked}
 use Rattle.words_run.specs.Run.{readAt, RunAnswer, runBy, runAnswer}
 use Rattle.words_run.proofs.Answers.{answers-same}
 use Rattle.words_read.specs.Read.{ReadArgs, writerOf, wordRefusal, readRefusal, wordOf, wordOr, readAnswer}
@@ -88,19 +87,11 @@ module _ (w h : ℕ) {f g : Frame} (a : Alike f g) (r : ReadArgs) (ws ns : List 
       (answers-same (λ (i : ℕ). readAnswer (readAt r i) w h f) (λ (i : ℕ). readAnswer (readAt r i) w h g) 0 (length ns)
       (λ i p q. read-same w h a (readAt r i))))
 
--- ---- part 2: a draw. The frame enters its plan only by numbers 1 to 3
+-- ---- part 2: a draw
 module _ (w h : ℕ) {f g : Frame} (a : Alike f g) (d : DrawArgs) where
-  plan-same : planOf d w h f ≡ planOf d w h g
-  unfolding planOf entryRefusal
-  plan-same = rw (refusal-same w h a)
-
-  draw-same : drawAnswer d w h f ≡ drawAnswer d w h g
-  unfolding drawAnswer
-  draw-same = ap answerBy plan-same
-
   draw-alike : Alike (drawFrame d w h f) (drawFrame d w h g)
   unfolding drawFrame
-  draw-alike = rw plan-same (go (planOf d w h g))
+  draw-alike = rw (plan-same d w h f g (refusal-same w h a)) (go (planOf d w h g))
     where
       go : (plan : Plan) → Alike (frameBy (d .mode) plan f) (frameBy (d .mode) plan g)
       go (Plan.refuse n) = a
@@ -160,7 +151,7 @@ module _ (w h : ℕ) where
   unfolding saidBy
   keeps (Call.draw d) =
       record {
-        same = λ f g a. ap Answer.drawn (draw-same w h a d);
+        same = λ f g a. ap Answer.drawn (draw-same d w h f g (refusal-same w h a));
         alike = λ f g a. draw-alike w h a d;
         marked = λ f p. draw-mark w h d f p;
       }

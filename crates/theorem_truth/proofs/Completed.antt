@@ -9,7 +9,7 @@ use Rattle.blender.specs.declared.Coverage.the-variants.{Unknown, Known}
 use Rattle.blender.specs.Blend.{orZero}
 use Rattle.frame_pixel.specs.Marks.{highestMark, colorMarked, coverageMarked, markOf}
 use Rattle.frame_pixel.specs.Knows.{KnowsPixel, AllKnownPixel}
-use Rattle.blender.proofs.Tests.{never}
+use Rattle.num_float.proofs.Tests.{never}
 use Rattle.frame.specs.Frame.{Frame, pixelAt}
 use Rattle.frame.specs.Checks.{frameRefusal}
 use Rattle.frame.specs.Fits.{Fit}

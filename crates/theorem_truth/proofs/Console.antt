@@ -22,7 +22,7 @@ use Rattle.words_run.specs.Run.{entryOf, runAnswer}
 use Rattle.theorem_calls.specs.Calls.{Call, frameAfter, frameAfterAll}
 use Rattle.theorem_truth.specs.Completed.{completed}
 use Rattle.theorem_truth.specs.Console.{consoleList, consoleBy, consoleAfter, consoleAfterAll}
-use Rattle.theorem_truth.proofs.Truth.{true-word, true-entry, step-all-known, draw-all-known}
+use Rattle.theorem_truth.proofs.Truth.{true-word, true-entry, step-all-known, call-all-known}
 use Rattle.theorem_truth.proofs.Completed.{completed-all-known, completed-knows, completed-truth}
 
 -- ---- a draw
@@ -51,13 +51,8 @@ module _ (w h : ℕ) where
   -- Along any list, a frame on which everything is known is the console's.
   pub console-after : (os : List Call) (f : Frame) → AllKnown f → frameAfterAll w h os f ≡ consoleAfterAll w h os f
   console-after [] f a = refl
-  console-after (o ∷ os) f a = console-after os (frameAfter w h o f) (known o) ∙ ap (consoleAfterAll w h os) (call o)
+  console-after (o ∷ os) f a = console-after os (frameAfter w h o f) (call-all-known w h o f a) ∙ ap (consoleAfterAll w h os) (call o)
     where
-      known : (o : Call) → AllKnown (frameAfter w h o f)
-      known (Call.draw d) = draw-all-known w h d f a
-      known (Call.read r) = a
-      known (Call.reads r ws ns) = a
-
       call : (o : Call) → frameAfter w h o f ≡ consoleAfter w h o f
       call (Call.draw d) = draw-is w h d f a
       call (Call.read r) = refl

@@ -3,7 +3,7 @@
 -- case that matters most: a frame on which everything is known. A further kind of call is a further clause of `keeps` with its two facts, and one in part 4 and in
 -- proofs/Console. Assumes nothing.
 use Prim.Native.Nat.{ℕ, zero, suc, _*_, _≤_, _<_}
-use mathlib.Core.Path.{_≡_, refl, sym, ap, subst, _∙_}
+use mathlib.Core.Path.{_≡_, refl, sym, subst, _∙_}
 use mathlib.Core.Bool.{Bool, true, false, cond, not, _&&_, _||_}
 use mathlib.Core.List.{List, [], _∷_}
 use native.Mathlib.Omega.{arith}
@@ -17,7 +17,7 @@ use Rattle.words_pack.specs.Writer.{supportedOf}
 use Rattle.frame_pixel.specs.declared.Pixel.{Pixel}
 use Rattle.frame_pixel.specs.Rules.{pixelStep}
 use Rattle.frame_pixel.specs.Knows.{AllKnownPixel}
-use Rattle.blender.proofs.Tests.{never}
+use Rattle.num_float.proofs.Tests.{never}
 use Rattle.frame_pixel.proofs.Knows.{pixel-knows, pixel-all-known}
 use Rattle.raster_pixel.specs.Emitted.{Emit}
 use Rattle.frame.specs.Frame.{Frame, pixelAt}
@@ -26,9 +26,8 @@ use Rattle.frame.specs.Knows.{KnowsFrame, KnowsAtLeast, AllKnown}
 use Rattle.frame.proofs.Fits.{accepted}
 use Rattle.frame.proofs.Knows.{put-knows, put-all-known}
 use Rattle.frame_paint.specs.Steps.{sourceOf, stepFrame, drawList}
-use Rattle.frame_draw.specs.Checks.{entryRefusal}
-use Rattle.frame_draw.specs.Draw.{DrawArgs, Plan, planOf, DrawAnswer, answerBy, frameBy, drawAnswer, drawFrame}
-use Rattle.frame_draw.proofs.Frames.{draw-refusal}
+use Rattle.frame_draw.specs.Draw.{DrawArgs, Plan, planOf, DrawAnswer, frameBy, drawAnswer, drawFrame}
+use Rattle.frame_draw.proofs.Frames.{plan-same, draw-same, draw-refusal}
 use Rattle.words_read.specs.Read.{ReadArgs, writerOf, readable, wordRefusal, readRefusal, wordOf, wordOr, readAnswer}
 use Rattle.words_run.specs.Run.{entryOf, runAnswer}
 use Rattle.theorem_calls.specs.Calls.{Call, Answer, answerTo, frameAfter, answers, frameAfterAll}
@@ -49,19 +48,11 @@ module _ (mode : RenderMode) (k : Combiner) where
   list-knows g f [] h = h
   list-knows g f (e ∷ es) h = list-knows (stepFrame mode k g e) (stepFrame mode k f e) es (step-knows g f e h)
 
--- ---- part 2: a draw. The frame enters its plan only by numbers 1 to 3, and a draw does not change what they say
+-- ---- part 2: a draw, which does not change what numbers 1 to 3 say
 module _ (w h : ℕ) {g f : Frame} (a : KnowsAtLeast w h g f) (d : DrawArgs) where
-  plan-same : planOf d w h g ≡ planOf d w h f
-  unfolding planOf entryRefusal
-  plan-same = rw (a .numbers)
-
-  draw-same : drawAnswer d w h g ≡ drawAnswer d w h f
-  unfolding drawAnswer
-  draw-same = ap answerBy plan-same
-
   draw-frame : KnowsFrame (drawFrame d w h g) (drawFrame d w h f)
   unfolding drawFrame
-  draw-frame = rw plan-same (go (planOf d w h f))
+  draw-frame = rw (plan-same d w h g f (a .numbers)) (go (planOf d w h f))
     where
       go : (plan : Plan) → KnowsFrame (frameBy (d .mode) plan g) (frameBy (d .mode) plan f)
       go (Plan.refuse n) = a .frame
@@ -80,7 +71,7 @@ module _ (w h : ℕ) where
   keeps : (o : Call) → Keeps w h o
   keeps (Call.draw d) =
       record {
-        tells = λ g f a. subst (λ (v : DrawAnswer). TellsAnswer (Answer.drawn v) (Answer.drawn (drawAnswer d w h f))) (sym (draw-same w h a d)) TellsAnswer.drawn;
+        tells = λ g f a. subst (λ (v : DrawAnswer). TellsAnswer (Answer.drawn v) (Answer.drawn (drawAnswer d w h f))) (sym (draw-same d w h g f (a .numbers))) TellsAnswer.drawn;
         knows = λ g f a. draw-knows w h a d;
       }
   keeps (Call.read r) = record { tells = λ g f a. TellsAnswer.word (read-tells w h a r); knows = λ g f a. a }
@@ -126,7 +117,7 @@ module _ (mode : RenderMode) (k : Combiner) where
   list-all-known f [] a = a
   list-all-known f (e ∷ es) a = list-all-known (stepFrame mode k f e) es (step-all-known f e a)
 
-pub draw-all-known : (w h : ℕ) (d : DrawArgs) (f : Frame) → AllKnown f → AllKnown (drawFrame d w h f)
+draw-all-known : (w h : ℕ) (d : DrawArgs) (f : Frame) → AllKnown f → AllKnown (drawFrame d w h f)
 unfolding drawFrame
 draw-all-known w h d f a = go (planOf d w h f)
   where
@@ -134,15 +125,15 @@ draw-all-known w h d f a = go (planOf d w h f)
     go (Plan.refuse n) = a
     go (Plan.accept k es) = list-all-known (d .mode) k f es a
 
+pub call-all-known : (w h : ℕ) (o : Call) (f : Frame) → AllKnown f → AllKnown (frameAfter w h o f)
+call-all-known w h (Call.draw d) f a = draw-all-known w h d f a
+call-all-known w h (Call.read r) f a = a
+call-all-known w h (Call.reads r ws ns) f a = a
+
 -- Everything stays known along any list.
 pub all-known-after : (w h : ℕ) (os : List Call) (f : Frame) → AllKnown f → AllKnown (frameAfterAll w h os f)
 all-known-after w h [] f a = a
-all-known-after w h (o ∷ os) f a = all-known-after w h os (frameAfter w h o f) (call o)
-  where
-    call : (o : Call) → AllKnown (frameAfter w h o f)
-    call (Call.draw d) = draw-all-known w h d f a
-    call (Call.read r) = a
-    call (Call.reads r ws ns) = a
+all-known-after w h (o ∷ os) f a = all-known-after w h os (frameAfter w h o f) (call-all-known w h o f a)
 
 refusal-le : (f : Frame) (w h : ℕ) → frameRefusal f w h ≤ 3
 unfolding frameRefusal

@@ -18,7 +18,7 @@ use Rattle.words_pack.specs.Writer.{colorSupported, supportedOf, pixelBytesOf, 
 use Rattle.frame_pixel.specs.declared.Pixel.{Pixel}
 use Rattle.frame_pixel.specs.Marks.{colorMarked, coverageMarked, coverageOf}
 use Rattle.frame_pixel.specs.Knows.{KnowsPixel}
-use Rattle.blender.proofs.Tests.{never, both-left, both-right}
+use Rattle.num_float.proofs.Tests.{never, both-left, both-right}
 use Rattle.frame.specs.Frame.{Frame, pixelAt}
 use Rattle.frame.specs.Knows.{KnowsAtLeast}
 use Rattle.frame.specs.Checks.{orElse, frameRefusal}
@@ -121,24 +121,24 @@ more-words : {b a : WordAnswer} → TellsWord b a → oneIf (a .number) ≤ oneI
 more-words TellsWord.same = omega arith
 more-words {b} (TellsWord.more n m) = subst (λ (v : WordAnswer). oneIf (v .number) ≤ oneIf (b .number)) (sym n) (omega arith)
 
-module _ (on : ℕ → WordAnswer) (of : ℕ → WordAnswer) (each : (i : ℕ) → TellsWord (on i) (of i)) where
-  counts : (i n : ℕ) → countOf (answersFrom of i n) ≤ countOf (answersFrom on i n)
+module _ (ys xs : ℕ → WordAnswer) (each : (i : ℕ) → TellsWord (ys i) (xs i)) where
+  counts : (i n : ℕ) → countOf (answersFrom xs i n) ≤ countOf (answersFrom ys i n)
   counts i zero = omega arith
   counts i (suc n) = omega (arith, more-words (each i), counts (suc i) n)
 
-  words-as-long : (i n : ℕ) → length (wordsOf (answersFrom on i n)) ≡ length (wordsOf (answersFrom of i n))
+  words-as-long : (i n : ℕ) → length (wordsOf (answersFrom ys i n)) ≡ length (wordsOf (answersFrom xs i n))
   words-as-long i zero = refl
   words-as-long i (suc n) = ap (λ (k : ℕ). suc (suc k)) (words-as-long (suc i) n)
 
-  numbers-as-long : (i n : ℕ) → length (numbersOf (answersFrom on i n)) ≡ length (numbersOf (answersFrom of i n))
+  numbers-as-long : (i n : ℕ) → length (numbersOf (answersFrom ys i n)) ≡ length (numbersOf (answersFrom xs i n))
   numbers-as-long i zero = refl
   numbers-as-long i (suc n) = ap suc (numbers-as-long (suc i) n)
 
   -- entry k, whose first byte is at d and whose second at o
   abbrev entry : List WordAnswer → ℕ → ℕ → ℕ → WordAnswer
-  entry xs k d o = record { number = getD (numbersOf xs) k 0; word = (getD (wordsOf xs) d 0, getD (wordsOf xs) o 0) }
+  entry l k d o = record { number = getD (numbersOf l) k 0; word = (getD (wordsOf l) d 0, getD (wordsOf l) o 0) }
 
-  entries-at : (i n k d : ℕ) → d ≡ 2 * k → TellsWord (entry (answersFrom on i n) k d (suc d)) (entry (answersFrom of i n) k d (suc d))
+  entries-at : (i n k d : ℕ) → d ≡ 2 * k → TellsWord (entry (answersFrom ys i n) k d (suc d)) (entry (answersFrom xs i n) k d (suc d))
   entries-at i zero k d e = TellsWord.same
   entries-at i (suc n) zero zero e = each i
   entries-at i (suc n) zero (suc d) e = absurd (omega arith)
@@ -146,7 +146,7 @@ module _ (on : ℕ → WordAnswer) (of : ℕ → WordAnswer) (each : (i : ℕ) �
   entries-at i (suc n) (suc k) (suc zero) e = absurd (omega arith)
   entries-at i (suc n) (suc k) (suc (suc d)) e = entries-at (suc i) n k d (omega arith)
 
-  run-entries : (n : ℕ) → TellsEntries (runBy (answersFrom on 0 n)) (runBy (answersFrom of 0 n))
+  run-entries : (n : ℕ) → TellsEntries (runBy (answersFrom ys 0 n)) (runBy (answersFrom xs 0 n))
   run-entries n =
       record {
         number = refl;
@@ -155,7 +155,7 @@ module _ (on : ℕ → WordAnswer) (of : ℕ → WordAnswer) (each : (i : ℕ) �
         numbers = numbers-as-long 0 n;
         entries = λ (k : ℕ).
             let next : suc (2 * k) ≡ 2 * k + 1 = omega arith in
-            subst (λ (o : ℕ). TellsWord (entry (answersFrom on 0 n) k (2 * k) o) (entry (answersFrom of 0 n) k (2 * k) o)) next (entries-at 0 n k (2 * k) refl);
+            subst (λ (o : ℕ). TellsWord (entry (answersFrom ys 0 n) k (2 * k) o) (entry (answersFrom xs 0 n) k (2 * k) o)) next (entries-at 0 n k (2 * k) refl);
       }
 
 module _ (w h : ℕ) {g f : Frame} (a : KnowsAtLeast w h g f) where

@@ -12,7 +12,7 @@ use Rattle.blender.specs.Mux.{muxOf}
 use Rattle.blender.specs.Coverage.{blends, clampOf, destinationOf}
 use Rattle.blender.specs.Known as known
 use Rattle.blender.specs.Blend.{factorB, mixedOf, bytesOf, blendOf}
-use Rattle.blender.proofs.Tests.{never}
+use Rattle.num_float.proofs.Tests.{never}
 use Rattle.frame_pixel.specs.declared.Pixel.{Pixel}
 use Rattle.frame_pixel.specs.Marks.{colorMarked, coverageMarked, markOf}
 use Rattle.frame_pixel.specs.Rules.{ruleF1, ruleF2, memoryOf, ruleF3, freshCoverage, ruleF5, coverageAt, knownAfter, colorsAfter, coverageAfter, assembled, pixelStep}

@@ -7,6 +7,7 @@ use lib.Count.{ones}
 use lib.Dec.{eqb}
 use lib.IntN.{ℤ, pos, negsuc}
 use lib.Ieee.{lt, le, ne, mul, add, sub, div, ofInt}
+use Rattle.num_float.proofs.Tests.{both-left, both-right}
 use Rattle.num_bits.specs.Field.{field}
 use Rattle.combiner_inputs.specs.Combine.{cycle1, select, command, colorA, colorB, colorC, colorD, alphaABD, alphaC}
 use Rattle.combiner.specs.Combine.{colorInput, alphaInput, mixed, channelAt, alphaAt, joined, colorOf}
@@ -50,18 +51,10 @@ same-eq (pos a) (negsuc b) t = absurd (true≢false (sym t))
 same-eq (negsuc a) (pos b) t = absurd (true≢false (sym t))
 same-eq (negsuc a) (negsuc b) t = ap negsuc (eqb-true a b t)
 
-left : (a b : Bool) → (a && b) ≡ true → a ≡ true
-left true b p = refl
-left false b p = p
-
-right : (a b : Bool) → (a && b) ≡ true → b ≡ true
-right true b p = p
-right false b p = absurd (true≢false (sym p))
-
 holds : (es : List Entry) → test es ≡ true → Holds es
 unfolding test
 holds [] t = tt
-holds (e ∷ es) t = (same-eq (e .value) (e .is) (left (same (e .value) (e .is)) (test es) t), holds es (right (same (e .value) (e .is)) (test es) t))
+holds (e ∷ es) t = (same-eq (e .value) (e .is) (both-left (same (e .value) (e .is)) (test es) t), holds es (both-right (same (e .value) (e .is)) (test es) t))
 
 computed : test table ≡ true
 unfolding test same table ones lt le ne mul add sub div ofInt field cycle1 select command colorA colorB colorC colorD alphaABD alphaC muxOf blends clampOf destinationOf reject alone factorB mixedOf bytesOf blendOf packChannelOf lastFrom rangeOf depthWord depthOf packDepthOf atOrBefore insert sorted quantized slopeOf edgeStart edgeFrom edgeAt crossOf triBy spanOf lineOf edgesOf twoOf pairOf maskOf insideOf sampleBit rowBits rectMask colorInput alphaInput mixed channelAt alphaAt joined colorOf compares blendsColor plain combinerOf newOf areaBy lookedUp usesShade checkOf parts triangleAt failing all admittedOf triangleFragment triangleEmits rectangleFragment rectangleEmits markOk marksOk frameRefusal scissorOk flagsOk inputsOk entryRefusal planOf drawAnswer

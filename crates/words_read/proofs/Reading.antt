@@ -7,7 +7,7 @@ use borrow.Author.Tests.{le-ltb, lt-ltb, eqb-true}
 use lib.Dec.{eqb, leb}
 use lib.ListN.{length, getD}
 use Rattle.frame_pixel.specs.declared.Colors.{Colors}
-use Rattle.blender.proofs.Tests.{never, both-left}
+use Rattle.num_float.proofs.Tests.{never, both-left}
 use Rattle.words_pack.specs.declared.Bytes2.{Bytes2}
 use Rattle.words_pack.specs.declared.FramebufferEncoding.{FramebufferEncoding}
 use Rattle.words_pack.specs.declared.Literal.the-variants.{Absent}

@@ -11,7 +11,7 @@ use lib.ListN.{length, getD}
 use Rattle.frame_pixel.specs.declared.Pixel.{Pixel}
 use Rattle.frame_pixel.specs.Marks.{colorMarked, coverageMarked, coverageOf}
 use Rattle.blender.specs.Blend.{orZero}
-use Rattle.blender.proofs.Tests.{never, both-right}
+use Rattle.num_float.proofs.Tests.{never, both-right}
 use Rattle.words_pack.specs.declared.FramebufferEncoding.{FramebufferEncoding}
 use Rattle.words_pack.specs.declared.Literal.the-variants.{Absent}
 use Rattle.words_pack.specs.declared.Rgba8.{Rgba8}

@@ -1,9 +1,10 @@
 -- What the tests of a call say of its outcome: one law for a call that goes through and one for a call that is turned away. Assumes nothing.
 use Prim.Native.Nat.{ℕ, _≤_, _<_}
-use mathlib.Core.Path.{_≡_, refl, sym, _∙_}
-use mathlib.Core.Bool.{Bool, true, false, cond, _&&_, true≢false}
+use mathlib.Core.Path.{_≡_, sym, _∙_}
+use mathlib.Core.Bool.{Bool, true, false, cond, _&&_}
 use lib.Dec.{leb}
 use borrow.Author.Tests.{leb-true}
+use Rattle.num_float.proofs.Tests.{both-left, both-right}
 use Rattle.words_pack.specs.declared.Writer.{Writer}
 use Rattle.writeback_pixel.specs.Refusal.{countOk, coverageOk, widthOk, sizOk, placeOk, writerOk, encodeOk, accepted, refused, checked}
 
@@ -30,17 +31,9 @@ second s t = λ i. s i && t i
 pub first : (a b : Bool) → a ≡ false → (a && b) ≡ false
 first a b s = λ i. s i && b
 
-left : (a b : Bool) → (a && b) ≡ true → a ≡ true
-left true b p = refl
-left false b p = p
-
-right : (a b : Bool) → (a && b) ≡ true → b ≡ true
-right true b p = p
-right false b p = absurd (true≢false (sym p))
-
 -- ---- what the checks let through
 pub counts : (n : ℕ) → countOk n ≡ true → (1 ≤ n) × (n ≤ 8)
-counts n p = (leb-true 1 n (left (leb 1 n) (leb n 8) p), leb-true n 8 (right (leb 1 n) (leb n 8) p))
+counts n p = (leb-true 1 n (both-left (leb 1 n) (leb n 8) p), leb-true n 8 (both-right (leb 1 n) (leb n 8) p))
 
 pub coverages : (c : ℕ) → coverageOk c ≡ true → c ≤ 7
 coverages c p = leb-true c 7 p
@@ -51,10 +44,10 @@ sizes s p = leb-true s 3 p
 pub writers : (w : Writer) → writerOk w ≡ true → (w .layout .siz ≤ 3) × (0 < w .layout .width)
 writers w t =
     let n = w .layout .width in
-    let wide = left (widthOk n) (sizOk (w .layout .siz)) t in
-    (sizes (w .layout .siz) (right (widthOk n) (sizOk (w .layout .siz)) t), leb-true 1 n (left (leb 1 n) (leb n 1024) wide))
+    let wide = both-left (widthOk n) (sizOk (w .layout .siz)) t in
+    (sizes (w .layout .siz) (both-right (widthOk n) (sizOk (w .layout .siz)) t), leb-true 1 n (both-left (leb 1 n) (leb n 1024) wide))
 
 pub writes : (w : Writer) (c p : ℕ) → encodeOk w c p ≡ true → (w .layout .siz ≤ 3) × (0 < w .layout .width) × (c ≤ 7)
 writes w c p t =
-    let writer = writers w (left (writerOk w) (coverageOk c && placeOk p) t) in
-    (writer .0, writer .1, coverages c (left (coverageOk c) (placeOk p) (right (writerOk w) (coverageOk c && placeOk p) t)))
+    let writer = writers w (both-left (writerOk w) (coverageOk c && placeOk p) t) in
+    (writer .0, writer .1, coverages c (both-left (coverageOk c) (placeOk p) (both-right (writerOk w) (coverageOk c && placeOk p) t)))

@@ -5,7 +5,7 @@ use Rattle.state.specs.declared.Rgba.{Rgba}
 use Rattle.combiner.specs.declared.Color.{Color}
 use Rattle.combiner.specs.declared.Color.the-variants as color
 use Rattle.num_float.specs.Color.{f0}
-use Rattle.blender.proofs.Tests.{never}
+use Rattle.num_float.proofs.Tests.{never}
 use borrow.Author.Needs.{needs}
 use Rattle.frame_paint.proofs.prepare.color_of.Statement.{statement}
 use Rattle.frame_paint.proofs.prepare.color_of.Tie as tie

@@ -4,7 +4,7 @@ use native.Mathlib.Nat.{le-trans}
 use native.Mathlib.Omega.{arith}
 use mathlib.Core.Path.{refl}
 use Rattle.frame.specs.Frame.{frameOf}
-use Rattle.blender.proofs.Tests.{both-left, both-right}
+use Rattle.num_float.proofs.Tests.{both-left, both-right}
 use Rattle.frame_paint.specs.Row.{rowAt}
 use Rattle.frame_paint.proofs.Drawing.{Drawing, drawing-start, drawing-by-fits, drawing-by, drawing-done, room-now, same-colors, same-coverages, same-marks}
 use Rattle.frame_paint.proofs.Joins.{row-most}

@@ -2,7 +2,7 @@
 use denote.Ref.{now}
 use lib.ListN.{getD}
 use Rattle.words_run.specs.Entries.{entriesOf}
-use Rattle.blender.proofs.Tests.{both-left}
+use Rattle.num_float.proofs.Tests.{both-left}
 use Rattle.frame.proofs.Tests.{was-true, was-false}
 use Rattle.words_run.proofs.Entries.{entry-refused, entry-read}
 use Rattle.words_run.proofs.Columns.{marked-by-size}
