@@ -1,0 +1,3 @@
+-- What the proofs of `frame_emitted` share, and the laws of its answers.
+pub mod Slots
+pub mod Answers
