@@ -2,3 +2,4 @@
 pub mod Slots
 pub mod Answers
 pub mod Frames
+pub mod Ends
