@@ -203,8 +203,8 @@ fn ask_pixel(
     present: &[u8],
     indices: &[u32],
     k: u64,
-) -> c_frame::EmittedAnswer {
-    c_frame::emitted_pixel(
+) -> c_frame::emitted::EmittedAnswer {
+    c_frame::emitted::emitted_pixel(
         width,
         height,
         colors,
@@ -285,7 +285,7 @@ fn ask_run(
     pixels: &mut [u32],
     masks: &mut [u8],
 ) -> Outcome {
-    let answer = c_frame::emitted_pixels(
+    let answer = c_frame::emitted::emitted_pixels(
         width,
         height,
         colors,
