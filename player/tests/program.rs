@@ -176,20 +176,19 @@ fn masks() {
     );
 }
 
-/// More pixels than are listed at a time: a triangle over all of the frame, a small one, and the first again.
+/// More pixels than are listed at a time: triangles over all of the frame, and a small one among them.
 #[test]
 fn masks_of_many_pixels() {
-    let (lines, log) = carried(
-        "frame 1024 1024\ncombine zero zero zero one zero zero zero one\nmode antialias on\nvertex -1024 0 1 1 1 1\n\
-         vertex 1023.75 -2048 1 1 1 1\nvertex 1023.75 2047.75 1 1 1 1\nvertex 0 0 1 1 1 1\nvertex 2 0 1 1 1 1\n\
-         vertex 0 2 1 1 1 1\nmasks triangles 0 1 2  3 4 5  0 1 2\n",
-    );
-    // Two of a row's last samples lie on the right side, which is left out.
-    let row = |y| format!("  pixels {} to {}: ff\n  pixel {}: ee\n", 1024 * y, 1024 * y + 1022, 1024 * y + 1023);
-    let large: String = (0..1024).map(row).collect();
-    let small = "  pixel 0: ff\n  pixel 1: e8\n  pixel 1024: e8\n";
-    let call = "line 10: masks triangles: 2097155 pixels\n";
-    assert!(lines == format!("{call}{large}{small}{large}calls 1, log lines 0\n"), "{}", &lines[..200]);
+    let all = "  0 1 2".repeat(150);
+    let (lines, log) = carried(format!(
+        "frame 64 64\ncombine zero zero zero one zero zero zero one\nmode antialias on\nvertex -64 -64 1 1 1 1\n\
+         vertex 256 -64 1 1 1 1\nvertex -64 256 1 1 1 1\nvertex 0 0 1 1 1 1\nvertex 2 0 1 1 1 1\nvertex 0 2 1 1 1 1\n\
+         masks triangles{all}  3 4 5{all}\n"
+    ));
+    let large = "  pixels 0 to 4095: ff\n".repeat(150);
+    let small = "  pixel 0: ff\n  pixel 1: e8\n  pixel 64: e8\n";
+    let call = "line 10: masks triangles: 1228803 pixels\n";
+    assert_eq!(lines, format!("{call}{large}{small}{large}calls 1, log lines 0\n"));
     assert_eq!(log, "");
 }
 
