@@ -9,7 +9,7 @@ c_types() {
     sed -E 's/\bu(8|16|32|64)\b/uint\1_t/g; s/\bi64\b/int64_t/g; s/\bf32\b/float/g; s/\busize\b/size_t/g
         s/\bMode\b/wb_mode/g; s/\bCombinerUniform\b/wb_uniform/g; s/\bParts\b/wb_combiner/g; s/\bRgba\b/wb_rgba/g; s/\bScissor\b/wb_scissor/g; s/\bGeometryParts\b/wb_geometry/g
         s/\bAnswer\b/wb_answer/g; s/\bSelectors\b/wb_selectors/g; s/\bColorAnswer\b/wb_color_answer/g; s/\bCombinerAnswer\b/wb_combiner_answer/g; s/\bStrictAnswer\b/wb_strict_answer/g
-        s/\bFragmentAnswer\b/wb_fragment/g; s/\bDrawnAnswer\b/wb_drawn/g; s/\bRanAnswer\b/wb_run/g'
+        s/\bFragmentAnswer\b/wb_fragment/g; s/\bDrawnAnswer\b/wb_drawn/g; s/\bRanAnswer\b/wb_run/g; s/\bEmittedAnswer\b/wb_emitted/g; s/\bListedAnswer\b/wb_emitted_run/g'
 }
 
 # One line, without comments; the header without its preprocessor's lines, too.

@@ -1,6 +1,6 @@
 /*
- * Asks the library, through the header, what the Rust original was asked before: the single calls of crates/replay/stdin, and the lists of draws and word reads of
- * crates/replay_lists/stdin. docs/replay.md says how they were recorded, oracle/README.md how a line is laid out. Floats agree if they are equal or both NaN.
+ * Asks the library, through the header, what the Rust original was asked before: the single calls of crates/replay/stdin, and the lists of draws, emitted pixels and word
+ * reads of crates/replay_lists/stdin. docs/replay.md says how they were recorded, oracle/README.md how a line is laid out. Floats agree if they are equal or both NaN.
  * Valid as C11 and as C++11.
  */
 #include "check.h"
@@ -397,7 +397,7 @@ static void encode(void) {
     same_answer(wb_encode(fmt, siz, width, depth, bytes, coverage, pixel, literal, given, rgb_dither, big_endian));
 }
 
-/* ---- lists of draws and word reads */
+/* ---- lists of draws, emitted pixels and word reads */
 
 /* Room for a slice of bytes and for a list of words; a line that needs more is told. */
 #define SLICE 512
@@ -445,37 +445,56 @@ static void frame(void) {
 
 static uint32_t smaller(uint32_t a, uint32_t b) { return a < b ? a : b; }
 
-/* Besides the draw itself: `wb_combiner_new` answers none exactly for number 6, `wb_admitted` no exactly for number 7, as far as they are asked; and an accepted draw's
- * count is that of the pixels inside the scissor that emit by themselves. */
-static void draw(void) {
-    static float vertices[LIST];
-    static uint32_t indices[LIST];
+/* A draw as a line has it. */
+typedef struct {
+    wb_mode mode;
+    wb_uniform uniform;
+    bool cull;
+    wb_scissor scissor;
+    wb_geometry geometry;
+    float vertices[LIST];
+    size_t floats;
     slice present;
-    wb_mode m = mode();
-    wb_uniform u = uniform();
-    bool cull = flag();
-    wb_scissor s;
-    s.left = word();
-    s.top = word();
-    s.width = word();
-    s.height = word();
-    wb_geometry g;
-    g.kind = word();
-    g.left = real();
-    g.top = real();
-    g.right = real();
-    g.bottom = real();
-    size_t floats = room(word(), LIST);
-    for (size_t i = 0; i < floats; i++) {
-        vertices[i] = real();
+    uint32_t indices[LIST];
+    size_t count;
+} drawing;
+
+static void drawing_into(drawing *d) {
+    d->mode = mode();
+    d->uniform = uniform();
+    d->cull = flag();
+    d->scissor.left = word();
+    d->scissor.top = word();
+    d->scissor.width = word();
+    d->scissor.height = word();
+    d->geometry.kind = word();
+    d->geometry.left = real();
+    d->geometry.top = real();
+    d->geometry.right = real();
+    d->geometry.bottom = real();
+    d->floats = room(word(), LIST);
+    for (size_t i = 0; i < d->floats; i++) {
+        d->vertices[i] = real();
     }
-    bytes_into(&present);
-    size_t count = room(word(), LIST);
-    for (size_t i = 0; i < count; i++) {
-        indices[i] = word();
+    bytes_into(&d->present);
+    d->count = room(word(), LIST);
+    for (size_t i = 0; i < d->count; i++) {
+        d->indices[i] = word();
     }
-    wb_drawn got = wb_draw(width, height, colors.at, colors.length, coverages.at, coverages.length, marks.at, marks.length, m, u, cull, s, g, vertices, floats,
-                           present.at, present.length, indices, count);
+}
+
+static wb_emitted emitted_pixel(const drawing *d, uint64_t k) {
+    return wb_emitted_pixel(width, height, colors.at, colors.length, coverages.at, coverages.length, marks.at, marks.length, d->mode, d->uniform, d->cull,
+                            d->scissor, d->geometry, d->vertices, d->floats, d->present.at, d->present.length, d->indices, d->count, k);
+}
+
+/* Besides the draw itself: `wb_combiner_new` answers none exactly for number 6, `wb_admitted` no exactly for number 7, as far as they are asked; and an accepted draw's
+ * pixels are those inside the scissor that emit by themselves: as many, and `wb_emitted_pixel` has them in this order with these masks. */
+static void draw(void) {
+    static drawing d;
+    drawing_into(&d);
+    wb_drawn got = wb_draw(width, height, colors.at, colors.length, coverages.at, coverages.length, marks.at, marks.length, d.mode, d.uniform, d.cull, d.scissor,
+                           d.geometry, d.vertices, d.floats, d.present.at, d.present.length, d.indices, d.count);
     answers();
     same_word(got.number);
     same_word(got.pixels);
@@ -486,25 +505,77 @@ static void draw(void) {
         return;
     }
 
-    wb_combiner_answer made = wb_combiner_new(u, m);
+    wb_combiner_answer made = wb_combiner_new(d.uniform, d.mode);
     check_at(file_name, line_number, "whether there is a combiner", made.some, got.number != 6);
     if (!made.some) {
         return;
     }
-    bool admitted = wb_admitted(made.combiner, g, vertices, floats, present.at, present.length, indices, count);
+    bool admitted = wb_admitted(made.combiner, d.geometry, d.vertices, d.floats, d.present.at, d.present.length, d.indices, d.count);
     check_at(file_name, line_number, "whether the draw is admitted", admitted, got.number == 0);
     if (!admitted) {
         return;
     }
-    uint64_t emitted = 0;
-    for (size_t i = 0; i < (g.kind == WB_TRIANGLES ? count / 3 : 1); i++) {
-        for (uint32_t y = s.top; y < smaller(height, s.top + s.height); y++) {
-            for (uint32_t x = s.left; x < smaller(width, s.left + s.width); x++) {
-                emitted += wb_pixel(m, made.combiner, cull, g, vertices, floats, present.at, present.length, indices, count, i, y, x).mask != 0;
+    uint64_t emitted = 0, listed = 0;
+    for (size_t i = 0; i < (d.geometry.kind == WB_TRIANGLES ? d.count / 3 : 1); i++) {
+        for (uint32_t y = d.scissor.top; y < smaller(height, d.scissor.top + d.scissor.height); y++) {
+            for (uint32_t x = d.scissor.left; x < smaller(width, d.scissor.left + d.scissor.width); x++) {
+                uint32_t mask = wb_pixel(d.mode, made.combiner, d.cull, d.geometry, d.vertices, d.floats, d.present.at, d.present.length, d.indices, d.count, i, y, x).mask;
+                if (mask != 0) {
+                    wb_emitted here = emitted_pixel(&d, emitted);
+                    listed += here.number == 0 && here.pixel == y * width + x && here.mask == mask;
+                    emitted++;
+                }
             }
         }
     }
     check_at(file_name, line_number, "pixels that emit", emitted, got.pixels);
+    check_at(file_name, line_number, "pixels that are emitted at their place", listed, got.pixels);
+    check_at(file_name, line_number, "the mask behind the last pixel", emitted_pixel(&d, emitted).mask, 0);
+}
+
+/* The upper half first. */
+static uint64_t two_words(void) {
+    uint64_t upper = word();
+    return upper << 32 | word();
+}
+
+static void mask(void) {
+    static drawing d;
+    drawing_into(&d);
+    uint64_t k = two_words();
+    answers();
+    wb_emitted got = emitted_pixel(&d, k);
+    same_word(got.number);
+    same_word(got.pixel);
+    same_word(got.mask);
+}
+
+static size_t pixels_into(uint32_t *to) {
+    size_t length = room(word(), LIST);
+    for (size_t i = 0; i < length; i++) {
+        to[i] = word();
+    }
+    return length;
+}
+
+static void masks(void) {
+    static drawing d;
+    static uint32_t pixels[LIST], expected[LIST];
+    slice of_pixels;
+    drawing_into(&d);
+    uint64_t first = two_words();
+    size_t length = pixels_into(pixels);
+    bytes_into(&of_pixels);
+    wb_emitted_run got =
+        wb_emitted_pixels(width, height, colors.at, colors.length, coverages.at, coverages.length, marks.at, marks.length, d.mode, d.uniform, d.cull, d.scissor,
+                          d.geometry, d.vertices, d.floats, d.present.at, d.present.length, d.indices, d.count, first, pixels, length, of_pixels.at, of_pixels.length);
+    answers();
+    same_word(got.number);
+    same_word(got.listed);
+    same_word(got.emitted);
+    bool same = pixels_into(expected) == length && memcmp(pixels, expected, length * sizeof *pixels) == 0;
+    check_at(file_name, line_number, "whether the pixels agree", same, true);
+    same_slice("whether the masks agree", &of_pixels);
 }
 
 static void read_word(void) {
@@ -535,7 +606,7 @@ static call calls[] = {
     CALL(pack_color), CALL(pack_depth), CALL(supported), CALL(pixel_bytes), CALL(encode),
 };
 
-static call list_calls[] = {CALL(frame), CALL(draw), {"read", read_word, 0}};
+static call list_calls[] = {CALL(frame), CALL(draw), {"read", read_word, 0}, CALL(mask), CALL(masks)};
 
 /* The whole file as a string; the caller frees it. */
 static char *text_of(const char *path) {

@@ -1,6 +1,6 @@
 /*
- * The C interface, called from C: the layout of the header's structs, the rules of docs/RULES.md and its ten worked values, draws on a small frame, every number that
- * a call is turned away with, and then the recorded answers of the Rust original (recorded.c). What is expected is worked out from these rules and the Rust, never
+ * The C interface, called from C: the layout of the header's structs, the rules of docs/RULES.md and its ten worked values, draws on a small frame and their pixels by
+ * themselves, every number that a call is turned away with, and then the recorded answers of the Rust original (recorded.c). What is expected is worked out from these rules and the Rust, never
  * taken from the library. Valid as C11 and as C++11; run.sh builds and runs it as both.
  */
 #include "check.h"
@@ -48,6 +48,8 @@ static_assert(sizeof(wb_geometry) == 20 && offsetof(wb_geometry, bottom) == 16, 
 static_assert(sizeof(wb_fragment) == 24 && offsetof(wb_fragment, shade_alpha) == 20, "a mask, a colour and an alpha");
 static_assert(sizeof(wb_scissor) == 16 && offsetof(wb_scissor, height) == 12, "four words");
 static_assert(sizeof(wb_drawn) == 16 && offsetof(wb_drawn, pixels) == 8, "a number, padding and a count");
+static_assert(sizeof(wb_emitted) == 12 && offsetof(wb_emitted, mask) == 8, "three words");
+static_assert(sizeof(wb_emitted_run) == 24 && offsetof(wb_emitted_run, listed) == 8 && offsetof(wb_emitted_run, emitted) == 16, "a number, padding and two counts");
 
 static_assert(sizeof(wb_run) == 16 && offsetof(wb_run, words) == 8, "a number, padding and a count");
 
@@ -495,9 +497,100 @@ static wb_answer read_word(const scene *s, size_t pixel, uint8_t fmt, uint8_t si
     return wb_read_word(s->width, s->height, s->colors, s->colors_len, s->coverages, s->coverages_len, s->marks, s->marks_len, pixel, fmt, siz, 3, big_endian);
 }
 
+static wb_emitted emitted_pixel(const scene *s, uint64_t k) {
+    return wb_emitted_pixel(s->width, s->height, s->colors, s->colors_len, s->coverages, s->coverages_len, s->marks, s->marks_len, s->mode, s->uniform, s->cull,
+                            s->scissor, s->geometry, s->vertices, s->vertices_len, s->present, s->present_len, s->indices, s->indices_len, k);
+}
+
+/* Slots for pixels and masks with guards around them, all 77 before they are lent. */
+enum { SLOTS = 12, GUARD = 4 };
+
+typedef struct {
+    uint32_t pixels[SLOTS + 2 * GUARD];
+    uint8_t masks[SLOTS + 2 * GUARD];
+} slots;
+
+static slots filled_slots(void) {
+    slots t;
+    memset(&t, 77, sizeof t);
+    return t;
+}
+
+static wb_emitted_run emitted_run(const scene *s, uint64_t first, slots *t, size_t pixels_len, size_t masks_len) {
+    return wb_emitted_pixels(s->width, s->height, s->colors, s->colors_len, s->coverages, s->coverages_len, s->marks, s->marks_len, s->mode, s->uniform, s->cull,
+                             s->scissor, s->geometry, s->vertices, s->vertices_len, s->present, s->present_len, s->indices, s->indices_len, first,
+                             t->pixels + GUARD, pixels_len, t->masks + GUARD, masks_len);
+}
+
+/* A pixel and its mask at a place, or zeros. */
+static void check_emitted(const scene *s, int line, uint64_t k, uint32_t pixel, uint32_t mask) {
+    wb_emitted got = emitted_pixel(s, k);
+    check_at(__FILE__, line, "number of an emitted pixel", got.number, 0);
+    check_at(__FILE__, line, "an emitted pixel", got.pixel, pixel);
+    check_at(__FILE__, line, "its mask", got.mask, mask);
+}
+
+#define CHECK_EMITTED(s, k, pixel, mask) check_emitted(s, __LINE__, k, pixel, mask)
+
+/* A run that is accepted: its slots are the single calls' answers, no byte around them is written, and the scene is as it was. */
+static void check_run(const scene *s, int line, uint64_t first, size_t length, uint64_t emitted) {
+    scene before = *s;
+    slots t = filled_slots(), untouched = filled_slots();
+    wb_emitted_run got = emitted_run(s, first, &t, length, length);
+    check_at(__FILE__, line, "number of a run", got.number, 0);
+    check_at(__FILE__, line, "pixels in all", got.emitted, emitted);
+    uint64_t left = first < emitted ? emitted - first : 0;
+    check_at(__FILE__, line, "pixels of a run", got.listed, left < length ? left : length);
+    for (size_t i = 0; i < length; i++) {
+        bool there = i < left;
+        wb_emitted alone = there ? emitted_pixel(s, first + i) : emitted_pixel(s, UINT64_MAX);
+        check_at(__FILE__, line, "a slot's pixel", t.pixels[GUARD + i], alone.pixel);
+        check_at(__FILE__, line, "a slot's mask", t.masks[GUARD + i], alone.mask);
+        check_at(__FILE__, line, "whether a slot has a pixel", alone.mask != 0, there);
+        t.pixels[GUARD + i] = untouched.pixels[GUARD + i];
+        t.masks[GUARD + i] = untouched.masks[GUARD + i];
+    }
+    check_at(__FILE__, line, "whether a byte beside the slots changed", memcmp(&t, &untouched, sizeof t) != 0, false);
+    check_at(__FILE__, line, "whether a byte of the scene changed", memcmp(&before, s, sizeof before) != 0, false);
+}
+
+#define CHECK_RUN(s, first, length, emitted) check_run(s, __LINE__, first, length, emitted)
+
+/* A run that is turned away: it writes nothing. */
+static void check_refused_run(const scene *s, int line, uint64_t first, size_t pixels_len, size_t masks_len, uint32_t number) {
+    scene before = *s;
+    slots t = filled_slots(), untouched = filled_slots();
+    wb_emitted_run got = emitted_run(s, first, &t, pixels_len, masks_len);
+    check_at(__FILE__, line, "number of a run", got.number, number);
+    check_at(__FILE__, line, "counts of a run that is turned away", got.listed | got.emitted, 0);
+    check_at(__FILE__, line, "whether a slot changed", memcmp(&t, &untouched, sizeof t) != 0, false);
+    check_at(__FILE__, line, "whether a byte of the scene changed", memcmp(&before, s, sizeof before) != 0, false);
+}
+
+/* A draw that is turned away, asked for its pixels: the same number from any place on, also where the slices do not match. */
+static void check_refused_pixels(const scene *s, int line, uint32_t number) {
+    static const uint64_t places[3] = {0, 1, UINT64_MAX};
+    for (int i = 0; i < 3; i++) {
+        wb_emitted got = emitted_pixel(s, places[i]);
+        check_at(__FILE__, line, "number of an emitted pixel", got.number, number);
+        check_at(__FILE__, line, "pixel and mask that are turned away", got.pixel | got.mask, 0);
+        check_refused_run(s, line, places[i], SLOTS, SLOTS, number);
+        check_refused_run(s, line, places[i], 0, 1, number);
+    }
+}
+
+/* A draw that is accepted, asked for its pixels: as many as it emits, and none behind them. */
+static void check_accepted_pixels(const scene *s, int line, uint64_t pixels) {
+    check_run(s, line, 0, SLOTS, pixels);
+    check_run(s, line, pixels, 1, pixels);
+    check_at(__FILE__, line, "the mask behind the last pixel", emitted_pixel(s, pixels).mask, 0);
+    check_at(__FILE__, line, "whether the last pixel has a mask", pixels == 0 || emitted_pixel(s, pixels - 1).mask != 0, true);
+}
+
 /* A draw that is accepted. */
 #define CHECK_DRAWN(s, expected_pixels) \
     do { \
+        check_accepted_pixels(s, __LINE__, expected_pixels); \
         wb_drawn drawn_ = draw(s); \
         check_at(__FILE__, __LINE__, "number of the draw", drawn_.number, 0); \
         check_at(__FILE__, __LINE__, "pixels of the draw", drawn_.pixels, expected_pixels); \
@@ -506,6 +599,7 @@ static wb_answer read_word(const scene *s, size_t pixel, uint8_t fmt, uint8_t si
 /* A draw that is turned away: it changes no byte. */
 #define CHECK_REFUSED(s, expected_number) \
     do { \
+        check_refused_pixels(s, __LINE__, expected_number); \
         scene before_ = *(s); \
         wb_drawn drawn_ = draw(s); \
         check_at(__FILE__, __LINE__, "number of the draw", drawn_.number, expected_number); \
@@ -724,6 +818,84 @@ static void refused_draws(void) {
     CHECK_REFUSED(&s, 1);
 }
 
+/* The pixels of draws by themselves: the two worked values with masks, the order of pixels and of a mask's bits, and places at the ends. */
+static void emitted_pixels(void) {
+    scene s = plain_scene();
+    s.geometry = rectangle(0.25f, 0.0f, 1.0f, 1.0f);
+    CHECK_EMITTED(&s, 0, 0, 0);
+    s.mode.antialias = true;
+    CHECK_EMITTED(&s, 0, 0, 0x77);
+    CHECK_EMITTED(&s, 1, 0, 0);
+    CHECK_EMITTED(&s, UINT64_MAX, 0, 0);
+    CHECK_RUN(&s, 0, 1, 1);
+    CHECK_RUN(&s, 0, 0, 1);
+
+    s.geometry = of_kind(WB_TRIANGLES);
+    set_vertex(s.vertices + 6, 0.125f, 0.25f, grey(1.0f));
+    set_vertex(s.vertices + 12, 1.0f, 2.0f, grey(1.0f));
+    CHECK_EMITTED(&s, 0, SIDE, 0x40);
+    CHECK_EMITTED(&s, 1, 0, 0);
+    s.mode.antialias = false;
+    CHECK_EMITTED(&s, 0, 0, 0);
+    CHECK_RUN(&s, 0, SLOTS, 0);
+
+    /* an eighth of a pixel around each sample of pixel 6, from bit 7 down: rows 1 and 3 stand two eighths further right */
+    s = plain_scene();
+    s.mode.antialias = true;
+    for (int bit = 7; bit >= 0; bit--) {
+        int row = (7 - bit) / 2, right = (7 - bit) % 2;
+        float left = 2.0f + (float)(4 * right + 2 * (row % 2)) / 8.0f, top = 1.0f + (float)row / 4.0f;
+        s.geometry = rectangle(left, top, left + 0.125f, top + 0.125f);
+        CHECK_EMITTED(&s, 0, 6, 1u << bit);
+        CHECK_EMITTED(&s, 1, 0, 0);
+    }
+
+    /* row by row from left to right: three quarters of columns 0 to 3, from row 1 on, with half of row 2 */
+    s.geometry = rectangle(0.25f, 1.0f, 3.0f, 2.5f);
+    static const uint32_t at[6] = {4, 5, 6, 8, 9, 10}, masks[6] = {0x77, 0xff, 0xff, 0x70, 0xf0, 0xf0};
+    for (uint64_t k = 0; k < 6; k++) {
+        CHECK_EMITTED(&s, k, at[k], masks[k]);
+    }
+    static const uint64_t behind[6] = {6, 7, UINT32_MAX, (uint64_t)UINT32_MAX + 1, UINT64_MAX - 1, UINT64_MAX};
+    for (int i = 0; i < 6; i++) {
+        CHECK_EMITTED(&s, behind[i], 0, 0);
+        CHECK_RUN(&s, behind[i], 0, 6);
+        CHECK_RUN(&s, behind[i], SLOTS, 6);
+    }
+    for (uint64_t first = 0; first < 6; first++) {
+        for (size_t length = 0; length <= SLOTS; length++) {
+            CHECK_RUN(&s, first, length, 6);
+        }
+    }
+
+    /* triangle after triangle: the second begins anew, and its pixels count again */
+    s = plain_scene();
+    s.uniform = only_words(INDEX_SHADE, INDEX_ONE);
+    s.geometry = of_kind(WB_TRIANGLES);
+    CHECK_EMITTED(&s, 9, 12, 0xe8);
+    CHECK_EMITTED(&s, 10, 0, 0);
+    uint32_t twice[6] = {0, 1, 2, 2, 1, 0};
+    wb_emitted got = wb_emitted_pixel(s.width, s.height, s.colors, s.colors_len, s.coverages, s.coverages_len, s.marks, s.marks_len, s.mode, s.uniform, s.cull,
+                                      s.scissor, s.geometry, s.vertices, s.vertices_len, s.present, s.present_len, twice, 6, 13);
+    CHECK(got.number, 0);
+    CHECK(got.pixel, 3);
+    CHECK(got.mask, 0xe8);
+
+    /* the frame's bytes do not count, as long as numbers 1 to 3 let them through */
+    memset(s.marks, 3, sizeof s.marks);
+    memset(s.coverages, 7, sizeof s.coverages);
+    CHECK_EMITTED(&s, 9, 12, 0xe8);
+
+    /* number 20, which comes after the draw's own, and leaves the slots as they were */
+    static const size_t lengths[4][2] = {{0, 1}, {1, 0}, {SLOTS, SLOTS - 1}, {3, 4}};
+    for (int i = 0; i < 4; i++) {
+        check_refused_run(&s, __LINE__, 0, lengths[i][0], lengths[i][1], 20);
+        check_refused_run(&s, __LINE__, UINT64_MAX, lengths[i][0], lengths[i][1], 20);
+    }
+    s.present[0] = 0;
+    check_refused_run(&s, __LINE__, 0, 1, 2, 7);
+}
+
 /* Numbers 1 to 3 and 8 to 10. */
 static void refused_reads(void) {
     scene s = plain_scene();
@@ -806,6 +978,7 @@ int main(int count, char **words) {
     draw_triangle();
     draw_blended();
     refused_draws();
+    emitted_pixels();
     refused_reads();
     read_run();
     check_recorded_calls(words[1]);

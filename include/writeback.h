@@ -1,9 +1,10 @@
 /*
- * The pixel write-back port for C: draws and word reads over a lent frame, the single-pixel calls, and a test entry for what one pixel of a draw emits.
+ * The pixel write-back port for C: draws, their pixels by themselves and word reads over a lent frame, the single-pixel calls, and a test entry for what one pixel of a
+ * draw emits.
  *
  * Every function is total and keeps no state. It takes and gives plain values, but for lists, which are lent for the call: a list is given by where it starts, which is not
  * NULL even of an empty one, and how many elements it has. Only wb_draw writes the frame's three
- * lists, and only wb_read_words the two for its answers; what is written overlaps no other list of the call. What each function
+ * lists, and only wb_read_words and wb_emitted_pixels each the two for its answers; what is written overlaps no other list of the call. What each function
  * answers is proved: the contracts stand in crates/exports/src, the definitions that they cite in the specs/ of the crates below it. c/run.sh holds this file to those crates
  * and calls every function from C.
  *
@@ -281,6 +282,34 @@ typedef struct {
 wb_drawn wb_draw(uint32_t width, uint32_t height, uint8_t *colors, size_t colors_len, uint8_t *coverages, size_t coverages_len, uint8_t *marks, size_t marks_len,
                  wb_mode mode, wb_uniform uniform, bool cull, wb_scissor scissor, wb_geometry geometry, const float *vertices, size_t vertices_len,
                  const uint8_t *present, size_t present_len, const uint32_t *indices, size_t indices_len);
+
+typedef struct {
+    uint32_t number; /* 0, or why the draw would be turned away: 1 to 7 */
+    uint32_t pixel;  /* the k-th emitted pixel's number, or 0 */
+    uint32_t mask;   /* its eight samples, or 0: past the last pixel, or turned away */
+} wb_emitted;
+
+/* The k-th pixel that wb_draw would emit, counted from 0 and with repeats, and which of its samples are hit. A pixel has four rows of two samples: bit 7 of the mask
+ * is the upper row's left one, bit 6 its right one, and so on to bit 0, the lowest row's right one. Nothing is drawn, and the frame is only read. The mask of an
+ * emitted pixel is never 0: beside number 0 a mask of 0, and not a pixel of 0, says that the draw emits no more than k pixels. */
+wb_emitted wb_emitted_pixel(uint32_t width, uint32_t height, const uint8_t *colors, size_t colors_len, const uint8_t *coverages, size_t coverages_len,
+                            const uint8_t *marks, size_t marks_len, wb_mode mode, wb_uniform uniform, bool cull, wb_scissor scissor, wb_geometry geometry,
+                            const float *vertices, size_t vertices_len, const uint8_t *present, size_t present_len, const uint32_t *indices, size_t indices_len,
+                            uint64_t k);
+
+typedef struct {
+    uint32_t number;  /* 0, or why it was turned away: 1 to 7, or 20 */
+    uint64_t listed;  /* how many of the slots have a pixel */
+    uint64_t emitted; /* how many pixels the draw emits in all, the count that wb_draw would answer */
+} wb_emitted_run;
+
+/* The emitted pixels from first on, as many as there are slots: pixels[i] and masks[i] are what wb_emitted_pixel answers for first + i, so that both are 0 past the
+ * last pixel. With no slots it answers how many pixels the draw emits. Number 20, which comes after 1 to 7: pixels and masks have not the same length. Turned away, it
+ * writes nothing and answers zeros. */
+wb_emitted_run wb_emitted_pixels(uint32_t width, uint32_t height, const uint8_t *colors, size_t colors_len, const uint8_t *coverages, size_t coverages_len,
+                                 const uint8_t *marks, size_t marks_len, wb_mode mode, wb_uniform uniform, bool cull, wb_scissor scissor, wb_geometry geometry,
+                                 const float *vertices, size_t vertices_len, const uint8_t *present, size_t present_len, const uint32_t *indices,
+                                 size_t indices_len, uint64_t first, uint32_t *pixels, size_t pixels_len, uint8_t *masks, size_t masks_len);
 
 /* The two bytes of a pixel's word, the first lowest, or why the read was turned away: 1 to 3 and 8 to 10. A word that is answered does not turn
  * on what is not known: it is the word of every frame that has the same known bytes and knows the rest (docs/THEOREMS.md). */

@@ -1,8 +1,10 @@
-//! The library and the Rust original side by side: the same frames, draws and word reads in one process, timed in turns.
+//! The library and the Rust original side by side: the same frames, draws, emitted pixels and word reads in one process, timed in
+//! turns; and beside a draw of the library the last of its pixels by its place.
 //!
 //!     bench [PART]   every scene, or those with PART in their name
 #![forbid(unsafe_code)]
 
+mod emitted;
 mod plain;
 mod scenes;
 
@@ -58,8 +60,7 @@ fn report(scene: &Scene) {
     }
     let same = rust.frame == library.frame && rust.pixels == library.pixels && rust.words.agrees(&library.words, scene);
     assert!(same, "{}: the two differ", scene.name);
-    let (rust, library) = (rust.rate(), library.rate());
-    row(scene.name, &[rust, library, library / rust].map(shown));
+    rates(scene.name, [rust.rate(), library.rate()]);
 }
 
 fn row(name: &str, cells: &[impl AsRef<str>; 3]) {
@@ -67,14 +68,33 @@ fn row(name: &str, cells: &[impl AsRef<str>; 3]) {
     println!("{name:<56} {rust:>9} {library:>9} {ratio:>9}");
 }
 
+/// The two rates, and the second by the first.
+fn rates(name: &str, [first, second]: [f64; 2]) {
+    row(name, &[first, second, second / first].map(shown));
+}
+
 fn main() -> ExitCode {
     let part = std::env::args().nth(1).unwrap_or_default();
-    let scenes: Vec<Scene> = scenes::all().into_iter().filter(|scene| scene.name.contains(&part)).collect();
-    if scenes.is_empty() {
+    let all = scenes::all();
+    let with = |before: &'static str, listed: bool| {
+        let named = all.iter().filter(move |scene| !listed || emitted::is_listed(scene));
+        let named = named.map(move |scene| (format!("{before}{}", scene.name), scene));
+        named.filter(|(name, _)| name.contains(&part)).collect::<Vec<_>>()
+    };
+    let drawn = with("", false);
+    let (every, last) = (with("every pixel listed: ", true), with("the last pixel: ", true));
+    if drawn.is_empty() && every.is_empty() && last.is_empty() {
         eprintln!("bench: no scene has \"{part}\" in its name");
         return ExitCode::from(2);
     }
-    row("million pixels a second", &["Rust", "library", "ratio"]);
-    scenes.iter().for_each(report);
+    if !drawn.is_empty() || !every.is_empty() {
+        row("million pixels a second", &["Rust", "library", "ratio"]);
+    }
+    drawn.iter().for_each(|(_, scene)| report(scene));
+    every.iter().for_each(|(name, scene)| rates(name, emitted::every_pixel(scene, &plain::prepare(scene), RUNS)));
+    if !last.is_empty() {
+        row("million pixels a second", &["drawn", "by place", "ratio"]);
+    }
+    last.iter().for_each(|(name, scene)| rates(name, emitted::last_pixel(scene, RUNS)));
     ExitCode::SUCCESS
 }

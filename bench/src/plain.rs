@@ -1,6 +1,7 @@
 //! The original's side: the frame of docs/RULES.md over its `Combiner::new`, `admitted`, `rasterize`, `color_known`, `blend`,
 //! `destination` and `encode`.
 
+use crate::emitted::List;
 use crate::scenes::{Reads, Scene, Words, BIG_ENDIAN, FMT, SINGLE_READS, SIZ};
 use oracle::draws::{Draw, Frame};
 use oracle::rust;
@@ -54,11 +55,14 @@ fn frame_number(frame: &Frame) -> u32 {
     0
 }
 
+/// Numbers 1 to 3, 6 and 7.
+fn accepted(frame: &Frame, draw: &PreparedDraw) -> bool {
+    frame_number(frame) == 0 && writeback::combiner_new(&draw.uniform, draw.mode).is_some() && draw.shape.admitted()
+}
+
 fn draw(frame: &mut Frame, draw: &PreparedDraw) -> u64 {
-    assert_eq!(frame_number(frame), 0);
+    assert!(accepted(frame, draw));
     let mode = draw.mode;
-    assert!(writeback::combiner_new(&draw.uniform, mode).is_some());
-    assert!(draw.shape.admitted());
     let [a, b] = [10, 2].map(|low| mode.blender_mux >> low & 3);
     let mut pixels = 0;
     let extent = (frame.width as usize, frame.height as usize);
@@ -95,6 +99,20 @@ fn draw(frame: &mut Frame, draw: &PreparedDraw) -> u64 {
         marks[pixel] = u8::from(known) + 2 * u8::from(covered.is_some());
     });
     pixels
+}
+
+impl Prepared {
+    /// The pixels of each draw and their counts, put behind what its list has.
+    pub fn list(&self, frame: &Frame, lists: &mut [List]) {
+        let extent = (frame.width as usize, frame.height as usize);
+        for (draw, List { pixels, samples }) in self.draws.iter().zip(lists) {
+            assert!(accepted(frame, draw));
+            draw.shape.rasterize(extent, |pixel, count, _, _| {
+                pixels.push(pixel as u32);
+                samples.push(count);
+            });
+        }
+    }
 }
 
 /// Numbers 8 to 10, and the pixel's two bytes.

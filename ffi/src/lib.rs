@@ -162,6 +162,22 @@ pub struct wb_drawn {
 
 #[repr(C)]
 #[derive(Clone, Copy, Debug, Default)]
+pub struct wb_emitted {
+    pub number: u32,
+    pub pixel: u32,
+    pub mask: u32,
+}
+
+#[repr(C)]
+#[derive(Clone, Copy, Debug, Default)]
+pub struct wb_emitted_run {
+    pub number: u32,
+    pub listed: u64,
+    pub emitted: u64,
+}
+
+#[repr(C)]
+#[derive(Clone, Copy, Debug, Default)]
 pub struct wb_run {
     pub number: u32,
     pub words: u64,
@@ -273,6 +289,54 @@ unsafe extern "C" {
         indices: *const u32,
         indices_len: usize,
     ) -> wb_drawn;
+    pub unsafe fn wb_emitted_pixel(
+        width: u32,
+        height: u32,
+        colors: *const u8,
+        colors_len: usize,
+        coverages: *const u8,
+        coverages_len: usize,
+        marks: *const u8,
+        marks_len: usize,
+        mode: wb_mode,
+        uniform: wb_uniform,
+        cull: bool,
+        scissor: wb_scissor,
+        geometry: wb_geometry,
+        vertices: *const f32,
+        vertices_len: usize,
+        present: *const u8,
+        present_len: usize,
+        indices: *const u32,
+        indices_len: usize,
+        k: u64,
+    ) -> wb_emitted;
+    pub unsafe fn wb_emitted_pixels(
+        width: u32,
+        height: u32,
+        colors: *const u8,
+        colors_len: usize,
+        coverages: *const u8,
+        coverages_len: usize,
+        marks: *const u8,
+        marks_len: usize,
+        mode: wb_mode,
+        uniform: wb_uniform,
+        cull: bool,
+        scissor: wb_scissor,
+        geometry: wb_geometry,
+        vertices: *const f32,
+        vertices_len: usize,
+        present: *const u8,
+        present_len: usize,
+        indices: *const u32,
+        indices_len: usize,
+        first: u64,
+        pixels: *mut u32,
+        pixels_len: usize,
+        masks: *mut u8,
+        masks_len: usize,
+    ) -> wb_emitted_run;
     pub unsafe fn wb_read_word(
         width: u32,
         height: u32,

@@ -22,13 +22,29 @@ fn module(name: &str, path: &Path) -> String {
     format!("#[path = {:?}]\npub mod {name};\n", path)
 }
 
-/// The original's whole text, byte for byte, and after it a child module of ours: only a child sees a file's private
+/// The original's whole text, byte for byte, and after it child modules of ours: only a child sees a file's private
 /// items. (`include!` refuses a file that opens with an inner attribute, as coherence.rs does.)
-fn with_reach(name: &str, original: &Path, reach: &Path, out: &Path) -> String {
+fn with_children(name: &str, original: &Path, children: &[(&str, &Path)], out: &Path) -> String {
     let text = fs::read_to_string(original).unwrap();
+    let children: String = children.iter().map(|(name, path)| module(name, path)).collect();
     let whole = out.join(format!("{name}.rs"));
-    fs::write(&whole, format!("{text}\n{}", module("reach", reach))).unwrap();
+    fs::write(&whole, format!("{text}\n{children}")).unwrap();
     module(name, &whole)
+}
+
+/// The original's `rasterize` once more, in a module of its own: there it hands the mask of a pixel's samples to its
+/// closure, where the original hands their number. These are two places of its text; nothing else is changed, and a text
+/// in which they are not found stops the build.
+fn rasterize_with_masks(writeback: &Path, out: &Path) -> PathBuf {
+    const NUMBER: &str = "mask.count_ones() as u8";
+    let text = fs::read_to_string(writeback).unwrap();
+    let start = text.find("pub(super) fn rasterize(").expect("writeback.rs has a rasterize");
+    let end = text[start..].find("\n}\n").expect("rasterize has an end");
+    let rasterize = &text[start..start + end + 3];
+    assert_eq!(rasterize.matches(NUMBER).count(), 2, "`{NUMBER}` in rasterize");
+    let masks = out.join("masks.rs");
+    fs::write(&masks, format!("use super::*;\n\n{}", rasterize.replace(NUMBER, "mask"))).unwrap();
+    masks
 }
 
 fn main() {
@@ -39,10 +55,14 @@ fn main() {
     let hle = ["blender", "combiner"].map(|name| module(name, &file(source.join(format!("hle/{name}.rs")))));
     fs::write(out.join("hle_modules.rs"), hle.concat()).unwrap();
 
-    let framebuffers = ["coherence", "writeback"].map(|name| {
-        let original = file(source.join(format!("render/framebuffers/{name}.rs")));
-        let reach = file(package.join(format!("reach_{name}.rs")));
-        with_reach(name, &original, &reach, &out)
-    });
+    let [coherence, writeback] =
+        ["coherence", "writeback"].map(|name| file(source.join(format!("render/framebuffers/{name}.rs"))));
+    let [reach_coherence, reach_writeback] =
+        ["coherence", "writeback"].map(|name| file(package.join(format!("reach_{name}.rs"))));
+    let masks = rasterize_with_masks(&writeback, &out);
+    let framebuffers = [
+        with_children("coherence", &coherence, &[("reach", &reach_coherence)], &out),
+        with_children("writeback", &writeback, &[("reach", &reach_writeback), ("masks", &masks)], &out),
+    ];
     fs::write(out.join("framebuffers_modules.rs"), framebuffers.concat()).unwrap();
 }

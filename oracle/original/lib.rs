@@ -2,7 +2,8 @@
 //!
 //! Whole and unchanged: hle/blender.rs, hle/combiner.rs, render/framebuffers/coherence.rs and
 //! render/framebuffers/writeback.rs. The last two get a child module `reach` after their text, since what is compared in
-//! them is private.
+//! them is private. writeback.rs gets another, `masks`: the text of its own `rasterize`, with the mask of a pixel's samples
+//! in the two places where the original hands on their number (build.rs). It is held to the unchanged one wherever it is used.
 //!
 //! Everything else in this folder stands in for files that are not there, or that would bring in the GPU, and is as
 //! small as the four files allow. Nothing of it takes part in an answer that is compared, but for:

@@ -151,6 +151,11 @@ impl Shape {
     pub fn rasterize(&self, extent: (usize, usize), pixel: impl FnMut(usize, u8, [f32; 4], f32)) {
         super::rasterize(&self.draw, &self.vertices, extent, pixel);
     }
+
+    /// The same walk, with the mask of each pixel's samples in place of their number.
+    pub fn rasterize_masks(&self, extent: (usize, usize), pixel: impl FnMut(usize, u8, [f32; 4], f32)) {
+        super::masks::rasterize(&self.draw, &self.vertices, extent, pixel);
+    }
 }
 
 pub fn in_range(position: [f32; 2]) -> bool {

@@ -1,5 +1,5 @@
-//! Lists of draws and word reads on the library's frame and on the one of frame.rs: every answer, and every byte of the
-//! three slices after each call, and what the rules give up (given_up.rs). Other lists on two frames that differ in unknown
+//! Lists of draws, emitted pixels and word reads on the library's frame and on the one of frame.rs: every answer, and every byte
+//! of the three slices after each call, and what the rules give up (given_up.rs). Other lists on two frames that differ in unknown
 //! bytes, and all of them on a frame that knows everything (compare_known.rs).
 
 use crate::compare::{added, Line, Part};
@@ -17,6 +17,9 @@ pub fn on_original(frame: &mut Frame, step: &Step, branches: &mut Branches) -> A
     on_frame(frame, step, |pen, frame, pixel, emitted| pen.put(frame, pixel, emitted, branches))
 }
 
+/// How often each number came, 20 being the last.
+pub type Numbers = [u64; 21];
+
 /// How often what came.
 #[derive(Default)]
 pub struct Counts {
@@ -24,8 +27,10 @@ pub struct Counts {
     twins: u64,
     twin_calls: u64,
     /// By the answer's number.
-    draws: [u64; 11],
-    reads: [u64; 11],
+    draws: Numbers,
+    reads: Numbers,
+    emitted_pixel: Numbers,
+    emitted_pixels: Numbers,
     pixels: u64,
     /// Accepted draws over the most triangles.
     long: u64,
@@ -46,15 +51,18 @@ impl Counts {
         })
     }
 
-    fn count(&mut self, step: &Step, (number, value): Answered) {
-        match step {
+    fn count(&mut self, step: &Step, answer: &Answered) {
+        let numbers = match step {
             Step::Draw(draw) => {
-                self.draws[number as usize] += 1;
-                self.pixels += value;
-                self.long += u64::from(number == 0 && is_long(draw));
+                self.pixels += answer.values[0];
+                self.long += u64::from(answer.number == 0 && is_long(draw));
+                &mut self.draws
             }
-            Step::Read(_) => self.reads[number as usize] += 1,
-        }
+            Step::Read(_) => &mut self.reads,
+            Step::EmittedPixel(_) => &mut self.emitted_pixel,
+            Step::EmittedPixels(_) => &mut self.emitted_pixels,
+        };
+        numbers[answer.number as usize] += 1;
     }
 }
 
@@ -66,16 +74,16 @@ fn check(list: &List, inputs: &mut Inputs, counts: &mut Counts) -> Result<(), St
     for step in &list.steps {
         let before = library.clone();
         let answers = [Library.call(&mut library, step), counts.original(&mut original, step)];
-        let ran = Ran { step, before: [&before; 2], after: [&library, &original], answers };
+        let ran = Ran { step, before: [&before; 2], after: [&library, &original], answers: answers.each_ref() };
         if answers[0] != answers[1] || library != original {
             return Err(ran.difference("list", SIDES, &place(&library, &original)));
         }
         if let Some(pixel) = &counts.given_up.wrong {
             return Err(ran.difference("what is certain", SIDES, pixel));
         }
-        counts.count(step, answers[1]);
+        counts.count(step, &answers[1]);
         if let Some(known) = &mut known {
-            known.follow(&Library, &Call { step, before: &before, after: &library, answer: answers[0] })?;
+            known.follow(&Library, &Call { step, before: &before, after: &library, answer: &answers[0] })?;
         }
     }
     if let Some(known) = known {
@@ -121,6 +129,8 @@ impl Sum for Counts {
             twin_calls: a.twin_calls + b.twin_calls,
             draws: added(a.draws, b.draws),
             reads: added(a.reads, b.reads),
+            emitted_pixel: added(a.emitted_pixel, b.emitted_pixel),
+            emitted_pixels: added(a.emitted_pixels, b.emitted_pixels),
             pixels: a.pixels + b.pixels,
             long: a.long + b.long,
             branches: both(a.branches, b.branches),
@@ -131,7 +141,7 @@ impl Sum for Counts {
 }
 
 /// How often each number came that the call has.
-fn numbers(counts: &[u64; 11], having: &[usize]) -> Vec<(String, u64)> {
+pub fn numbers(counts: &Numbers, having: &[usize]) -> Vec<(String, u64)> {
     let all = ("compared".to_string(), counts.iter().sum());
     let each = having.iter().map(|number| (format!("with number {number}"), counts[*number]));
     std::iter::once(all).chain(each).collect()
@@ -152,6 +162,8 @@ impl Counts {
             ("lists", named(["compared", "pixels", "draws of 4,096 triangles"], [self.lists, self.pixels, self.long])),
             ("draw", numbers(&self.draws, &[0, 1, 2, 3, 4, 5, 6, 7])),
             ("read_word", numbers(&self.reads, &[0, 1, 2, 3, 8, 9, 10])),
+            ("emitted_pixel, in lists", numbers(&self.emitted_pixel, &[0, 1, 2, 3, 4, 5, 6, 7])),
+            ("emitted_pixels, in lists", numbers(&self.emitted_pixels, &[0, 1, 2, 3, 4, 5, 6, 7, 20])),
             ("F1 to F4, coverage marked", named(answers, colors[1])),
             ("F1 to F4, coverage unmarked", named(answers, colors[0])),
             ("F3", named(["that take a marked colour in", "divided by A + B"], [memory_colors, divided])),

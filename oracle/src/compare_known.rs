@@ -16,8 +16,8 @@ pub fn two_runs(side: &impl Side, list: &List, inputs: &mut Inputs) -> Result<u6
     for step in &list.steps {
         let before = [one.clone(), other.clone()];
         let answers = [side.call(&mut one, step), side.call(&mut other, step)];
-        if answers[0] != answers[1] || !one.like(&other) {
-            let ran = Ran { step, before: before.each_ref(), after: [&one, &other], answers };
+        let ran = Ran { step, before: before.each_ref(), after: [&one, &other], answers: answers.each_ref() };
+        if answers[0] != answers[1] || !one.like(&other) || !ran.untouched() {
             return Err(ran.difference("two runs", ["first frame", "second frame"], &place(&one, &other)));
         }
     }
@@ -64,12 +64,15 @@ pub struct Call<'a> {
     pub step: &'a Step,
     pub before: &'a Frame,
     pub after: &'a Frame,
-    pub answer: Answered,
+    pub answer: &'a Answered,
 }
+
+/// A word read's number and word.
+type Word = (u32, u64);
 
 /// Whether a word read that is answered `less` is answered `more` where everything is known: a word is the same one, and a
 /// refusal the same one, but for number 10, for which there is no reason then. A refusal comes with no word.
-fn follows(less: Answered, more: Answered) -> bool {
+fn follows(less: Word, more: Word) -> bool {
     match less {
         (0, _) => more == less,
         (10, word) => word == 0 && more.0 == 0,
@@ -78,7 +81,7 @@ fn follows(less: Answered, more: Answered) -> bool {
 }
 
 /// A run's entries as answers.
-fn entries<'a>(words: &'a [u8], numbers: &'a [u8]) -> impl Iterator<Item = Answered> + 'a {
+fn entries<'a>(words: &'a [u8], numbers: &'a [u8]) -> impl Iterator<Item = Word> + 'a {
     let words = words.chunks_exact(2).map(|word| u16::from_le_bytes([word[0], word[1]]));
     numbers.iter().zip(words).map(|(number, word)| (u32::from(*number), u64::from(word)))
 }
@@ -114,18 +117,20 @@ impl KnownFrame {
         let Call { step, before, after, answer } = *call;
         let known_before = self.frame.clone();
         let known_answer = side.call(&mut self.frame, step);
+        let word = |answer: &Answered| (answer.number, answer.values[0]);
         let followed = match step {
-            Step::Draw(_) => answer == known_answer,
-            Step::Read(_) => follows(answer, known_answer),
+            Step::Read(_) => follows(word(answer), word(&known_answer)),
+            _ => *answer == known_answer,
         };
         let untrue = if followed { self.untrue(after) } else { Some("the answer".into()) };
-        if let Some(place) = untrue {
-            let (before, after) = ([before, &known_before], [after, &self.frame]);
-            let ran = Ran { step, before, after, answers: [answer, known_answer] };
+        let (before, after) = ([before, &known_before], [after, &self.frame]);
+        let ran = Ran { step, before, after, answers: [answer, &known_answer] };
+        let touched = (!ran.untouched()).then(|| "a frame that the call does not write".into());
+        if let Some(place) = untrue.or(touched) {
             return Err(ran.difference("known frame", NAMES, &place));
         }
         self.held.calls += 1;
-        self.held.words += u64::from(matches!(step, Step::Read(_)) && answer.0 == 0);
+        self.held.words += u64::from(matches!(step, Step::Read(_)) && answer.number == 0);
         Ok(())
     }
 
@@ -166,7 +171,7 @@ pub fn known_frame(side: &impl Side, list: &List, inputs: &mut Inputs) -> Result
     for step in &list.steps {
         let before = frame.clone();
         let answer = side.call(&mut frame, step);
-        known.follow(side, &Call { step, before: &before, after: &frame, answer })?;
+        known.follow(side, &Call { step, before: &before, after: &frame, answer: &answer })?;
     }
     known.finish(side, &frame, inputs)
 }

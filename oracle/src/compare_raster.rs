@@ -7,6 +7,7 @@ use crate::compare_combiner::any_combiner;
 use crate::draws::Shape;
 use crate::inputs::{shifted, Inputs};
 use crate::library::{Combiner, Mode, Rgba};
+use crate::rust::Fragment;
 use crate::shapes::{any_shape, flawed, size, RECTANGLE};
 use crate::words::{hex, Words};
 use crate::{library, rust};
@@ -33,10 +34,7 @@ pub fn in_range(part: &Part) -> Outcome {
     Ok(tally.compared)
 }
 
-/// An emitted pixel: its number, count, colour and shade alpha.
-type Emitted = (usize, u8, Rgba, f32);
-
-fn alike(a: &Emitted, b: &Emitted) -> bool {
+fn alike(a: &Fragment, b: &Fragment) -> bool {
     (a.0, a.1) == (b.0, b.1) && a.2.alike(&b.2) && a.3.alike(&b.3)
 }
 
@@ -83,7 +81,7 @@ impl Case {
         from..(from + length).min(limit)
     }
 
-    fn library_list(&self) -> Vec<Emitted> {
+    fn library_list(&self) -> Vec<Fragment> {
         let (width, height) = self.size;
         let shape = &self.shape;
         let count = if shape.geometry.kind == RECTANGLE { 1 } else { shape.indices.len() / 3 };
@@ -93,8 +91,9 @@ impl Case {
                 for x in Self::inside(shape.scissor.left, shape.scissor.width, width) {
                     let fragment = library::pixel(self.mode, self.combiner, shape, i, y, x);
                     if fragment.mask != 0 {
-                        let count = fragment.mask.count_ones() as u8;
-                        list.push(((y * width + x) as usize, count, fragment.rgba, fragment.shade_alpha));
+                        // A mask has eight bits; a larger one must not pass for one of them.
+                        let mask = u8::try_from(fragment.mask).unwrap_or_default();
+                        list.push(((y * width + x) as usize, mask, fragment.rgba, fragment.shade_alpha));
                     }
                 }
             }
@@ -102,22 +101,14 @@ impl Case {
         list
     }
 
-    fn original_list(&self, original: &original::writeback::Shape) -> Vec<Emitted> {
-        let mut list = Vec::new();
-        original.rasterize((self.size.0 as usize, self.size.1 as usize), |pixel, count, color, shade_alpha| {
-            list.push((pixel, count, rust::rgba(color), shade_alpha));
-        });
-        list
-    }
-
     fn check_list(&self, original: &original::writeback::Shape, counts: &mut Emissions) -> Result<(), String> {
-        let (library, original) = (self.library_list(), self.original_list(original));
+        let (library, original) = (self.library_list(), rust::emitted(original, self.size));
         let pairs = library.iter().zip(&original);
         let same = pairs.take_while(|(a, b)| alike(a, b)).count();
         if same < library.len().max(original.len()) {
-            let shown = |list: &[Emitted]| match list.get(same) {
-                Some((pixel, count, color, alpha)) => {
-                    format!("pixel {pixel}, count {count}, colour {}, shade alpha {}", hex(color), hex(alpha))
+            let shown = |list: &[Fragment]| match list.get(same) {
+                Some((pixel, mask, color, alpha)) => {
+                    format!("pixel {pixel}, mask {mask:02x}, colour {}, shade alpha {}", hex(color), hex(alpha))
                 }
                 None => "no more".into(),
             };
@@ -127,7 +118,7 @@ impl Case {
         counts.admitted += 1;
         counts.empty += u64::from(original.is_empty());
         counts.pixels += original.len() as u64;
-        counts.partial += original.iter().filter(|emitted| emitted.1 < 8).count() as u64;
+        counts.partial += original.iter().filter(|emitted| emitted.1 != 0xff).count() as u64;
         Ok(())
     }
 

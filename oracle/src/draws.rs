@@ -1,4 +1,4 @@
-//! Draws, word reads and the frame that they work on, and their text.
+//! Draws, their emitted pixels, word reads and the frame that they work on, and their text.
 
 use crate::library::{Geometry, Mode, Scissor, Uniform};
 use crate::words::{hex, Words};
@@ -33,11 +33,29 @@ pub struct Read {
     pub big_endian: bool,
 }
 
+/// The k-th pixel that a draw emits.
+#[derive(Clone)]
+pub struct EmittedPixel {
+    pub draw: Draw,
+    pub k: u64,
+}
+
+/// A run of the pixels that a draw emits, with the two slices as they are before it.
+#[derive(Clone)]
+pub struct EmittedPixels {
+    pub draw: Draw,
+    pub first: u64,
+    pub pixels: Vec<u32>,
+    pub masks: Vec<u8>,
+}
+
 /// A call of a list.
 #[derive(Clone)]
 pub enum Step {
     Draw(Box<Draw>),
     Read(Read),
+    EmittedPixel(Box<EmittedPixel>),
+    EmittedPixels(Box<EmittedPixels>),
 }
 
 /// The sizes and the three slices, whose lengths may be wrong ones.
@@ -88,13 +106,28 @@ impl Shape {
     }
 }
 
+impl Draw {
+    pub fn text(&self) -> String {
+        format!("{} {} {}", hex(&self.mode), hex(&self.uniform), self.shape.text())
+    }
+}
+
+/// A run's two slices, before it or after it.
+pub fn slots(pixels: &Vec<u32>, masks: &[u8]) -> String {
+    format!("{} {}", counted(pixels), bytes(masks))
+}
+
 impl Step {
     pub fn text(&self) -> String {
         match self {
-            Step::Draw(draw) => format!("draw {} {} {}", hex(&draw.mode), hex(&draw.uniform), draw.shape.text()),
+            Step::Draw(draw) => format!("draw {}", draw.text()),
             Step::Read(Read { pixel, fmt, siz, rgb_dither, big_endian }) => {
                 let rest = [hex(fmt), hex(siz), hex(rgb_dither), hex(big_endian)].join(" ");
                 format!("read {pixel:08x} {rest}")
+            }
+            Step::EmittedPixel(one) => format!("mask {} {}", one.draw.text(), hex(&one.k)),
+            Step::EmittedPixels(run) => {
+                format!("masks {} {} {}", run.draw.text(), hex(&run.first), slots(&run.pixels, &run.masks))
             }
         }
     }

@@ -1,8 +1,8 @@
-//! The frame of docs/RULES.md over the original's functions: numbers 1 to 10, F1 to F5 and the word read. The frame is ours,
-//! so this is a second writing of the rules, and not of the port.
+//! The frame of docs/RULES.md over the original's functions: numbers 1 to 10, 19 and 20, F1 to F5, the word reads and the
+//! emitted pixels by themselves. The frame is ours, so this is a second writing of the rules, and not of the port.
 
 use crate::draws::{Draw, Frame, Read, Shape};
-use crate::library::{Answer, DrawAnswer, RunAnswer};
+use crate::library::{Answer, DrawAnswer, EmittedAnswer, EmittedRunAnswer, RunAnswer};
 use crate::rust;
 use original::writeback::{self, Parts};
 use original::{coherence, FramebufferEncoding, RenderMode};
@@ -175,24 +175,37 @@ pub fn draw(frame: &mut Frame, draw: &Draw, branches: &mut Branches) -> DrawAnsw
     draw_with(frame, draw, |pen, frame, pixel, emitted| pen.put(frame, pixel, emitted, branches))
 }
 
-/// A draw, of which every emitted pixel is handed to `put`.
-pub fn draw_with(frame: &mut Frame, draw: &Draw, mut put: impl FnMut(&Pen, &mut Frame, usize, &Emitted)) -> DrawAnswer {
-    let refused = |number| DrawAnswer { number, pixels: 0 };
+/// What an accepted draw is: its mode, its combiner and what it covers.
+struct Accepted {
+    mode: RenderMode,
+    parts: Parts,
+    shape: writeback::Shape,
+}
+
+/// The draw, or one of the numbers 1 to 7.
+fn accepted(frame: &Frame, draw: &Draw) -> Result<Accepted, u32> {
     let number = match frame_number(frame) {
         0 => shape_number(&draw.shape),
         number => number,
     };
     if number != 0 {
-        return refused(number);
+        return Err(number);
     }
     let mode = rust::render_mode(draw.mode);
-    let Some(parts) = writeback::combiner_new(&rust::combiner_uniform(draw.uniform), mode) else {
-        return refused(6);
-    };
+    let parts = writeback::combiner_new(&rust::combiner_uniform(draw.uniform), mode).ok_or(6u32)?;
     let shape = rust::shape(draw.mode, parts.clone(), &draw.shape);
     if !shape.admitted() {
-        return refused(7);
+        return Err(7);
     }
+    Ok(Accepted { mode, parts, shape })
+}
+
+/// A draw, of which every emitted pixel is handed to `put`.
+pub fn draw_with(frame: &mut Frame, draw: &Draw, mut put: impl FnMut(&Pen, &mut Frame, usize, &Emitted)) -> DrawAnswer {
+    let Accepted { mode, parts, shape } = match accepted(frame, draw) {
+        Ok(accepted) => accepted,
+        Err(number) => return DrawAnswer { number, pixels: 0 },
+    };
     let pen = Pen { mode, parts: &parts };
     let mut pixels = 0;
     shape.rasterize((frame.width as usize, frame.height as usize), |pixel, count, rgba, shade_alpha| {
@@ -200,6 +213,59 @@ pub fn draw_with(frame: &mut Frame, draw: &Draw, mut put: impl FnMut(&Pen, &mut 
         put(&pen, frame, pixel, &Emitted { count, rgba, shade_alpha });
     });
     DrawAnswer { number: 0, pixels }
+}
+
+/// The pixels that a draw emits, each with its mask, or the number that the draw is turned away with.
+pub struct EmittedList(Result<Vec<(u32, u8)>, u32>);
+
+impl EmittedList {
+    pub fn of(frame: &Frame, draw: &Draw) -> Self {
+        EmittedList(accepted(frame, draw).map(|accepted| {
+            let list = rust::emitted(&accepted.shape, (frame.width, frame.height));
+            list.iter().map(|(pixel, mask, ..)| (*pixel as u32, *mask)).collect()
+        }))
+    }
+
+    /// The list, which is empty where the draw is turned away.
+    pub fn pixels(&self) -> &[(u32, u8)] {
+        self.0.as_deref().unwrap_or_default()
+    }
+
+    /// Without the pixels that are not to be kept.
+    pub fn kept(self, keep: impl Fn(usize) -> bool) -> Self {
+        EmittedList(self.0.map(|list| list.into_iter().filter(|(pixel, _)| keep(*pixel as usize)).collect()))
+    }
+
+    /// 0, or one of 1 to 7.
+    pub fn number(&self) -> u32 {
+        self.0.as_ref().map_or_else(|number| *number, |_| 0)
+    }
+
+    /// A place may be any number that is not below 0.
+    fn at(&self, place: u128) -> (u32, u8) {
+        let found = usize::try_from(place).ok().and_then(|place| self.pixels().get(place));
+        found.copied().unwrap_or((0, 0))
+    }
+
+    pub fn pixel(&self, k: u64) -> EmittedAnswer {
+        let (pixel, mask) = self.at(k.into());
+        EmittedAnswer { number: self.number(), pixel, mask: mask.into() }
+    }
+
+    pub fn run(&self, first: u64, pixels: &mut [u32], masks: &mut [u8]) -> EmittedRunAnswer {
+        let refused = |number| EmittedRunAnswer { number, listed: 0, emitted: 0 };
+        if self.number() != 0 {
+            return refused(self.number());
+        }
+        if pixels.len() != masks.len() {
+            return refused(20);
+        }
+        for (i, (pixel, mask)) in pixels.iter_mut().zip(masks.iter_mut()).enumerate() {
+            (*pixel, *mask) = self.at(u128::from(first) + i as u128);
+        }
+        let listed = masks.iter().filter(|mask| **mask != 0).count() as u64;
+        EmittedRunAnswer { number: 0, listed, emitted: self.pixels().len() as u64 }
+    }
 }
 
 pub fn read_word(frame: &Frame, read: &Read) -> Answer {

@@ -70,6 +70,11 @@ impl Inputs {
         Inputs { state: seed }
     }
 
+    /// Another stretch, which leaves this one where it is.
+    pub fn aside(&self) -> Self {
+        Inputs::new(!self.state)
+    }
+
     pub fn bits(&mut self) -> u64 {
         self.state = self.state.wrapping_add(0x9e37_79b9_7f4a_7c15);
         let mut z = self.state;

@@ -5,6 +5,7 @@
 pub mod calls;
 pub mod compare;
 pub mod compare_combiner;
+pub mod compare_emitted;
 pub mod compare_frame;
 pub mod compare_known;
 pub mod compare_numbers;

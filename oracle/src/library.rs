@@ -3,12 +3,12 @@
 
 use crate::draws::{Draw, Frame, Read, Shape};
 use crate::words::{Sheet, Words};
-use writeback_sys::{wb_admitted, wb_draw, wb_pixel, wb_read_word, wb_read_words};
+use writeback_sys::{wb_admitted, wb_draw, wb_emitted_pixel, wb_emitted_pixels, wb_pixel, wb_read_word, wb_read_words};
 pub use writeback_sys::{
     wb_answer as Answer, wb_color_answer as ColorAnswer, wb_combiner as Combiner, wb_combiner_answer as CombinerAnswer,
-    wb_drawn as DrawAnswer, wb_fragment as FragmentAnswer, wb_geometry as Geometry, wb_mode as Mode, wb_rgba as Rgba,
-    wb_run as RunAnswer, wb_scissor as Scissor, wb_selectors as Selectors, wb_strict_answer as StrictAnswer,
-    wb_uniform as Uniform,
+    wb_drawn as DrawAnswer, wb_emitted as EmittedAnswer, wb_emitted_run as EmittedRunAnswer,
+    wb_fragment as FragmentAnswer, wb_geometry as Geometry, wb_mode as Mode, wb_rgba as Rgba, wb_run as RunAnswer,
+    wb_scissor as Scissor, wb_selectors as Selectors, wb_strict_answer as StrictAnswer, wb_uniform as Uniform,
 };
 
 /// The words of structs: those of all their fields, in this order.
@@ -142,6 +142,41 @@ pub fn draw(frame: &mut Frame, draw: &Draw) -> DrawAnswer {
             colors.as_mut_ptr(), colors.len(), coverages.as_mut_ptr(), coverages.len(), marks.as_mut_ptr(), marks.len(),
             draw.mode, draw.uniform, shape.cull, shape.scissor, shape.geometry;
             shape;
+        )
+    }
+}
+
+pub fn emitted_pixel(frame: &Frame, draw: &Draw, k: u64) -> EmittedAnswer {
+    let Frame { width, height, colors, coverages, marks } = frame;
+    let shape = &draw.shape;
+    with_lists! {
+        wb_emitted_pixel(
+            *width, *height,
+            colors.as_ptr(), colors.len(), coverages.as_ptr(), coverages.len(), marks.as_ptr(), marks.len(),
+            draw.mode, draw.uniform, shape.cull, shape.scissor, shape.geometry;
+            shape;
+            k
+        )
+    }
+}
+
+/// The run of emitted pixels from `first` on.
+pub fn emitted_pixels(
+    frame: &Frame,
+    draw: &Draw,
+    first: u64,
+    pixels: &mut [u32],
+    masks: &mut [u8],
+) -> EmittedRunAnswer {
+    let Frame { width, height, colors, coverages, marks } = frame;
+    let shape = &draw.shape;
+    with_lists! {
+        wb_emitted_pixels(
+            *width, *height,
+            colors.as_ptr(), colors.len(), coverages.as_ptr(), coverages.len(), marks.as_ptr(), marks.len(),
+            draw.mode, draw.uniform, shape.cull, shape.scissor, shape.geometry;
+            shape;
+            first, pixels.as_mut_ptr(), pixels.len(), masks.as_mut_ptr(), masks.len()
         )
     }
 }

@@ -1,7 +1,8 @@
-//! Lists of draws and word reads on a frame, mostly accepted, with every reason to turn one away.
+//! Lists of draws, emitted pixels and word reads on a frame, mostly accepted, with every reason to turn one away.
 
 use crate::compare_combiner::{passing, usable};
-use crate::draws::{Draw, Frame, Read, Shape, Step};
+use crate::draws::{Draw, EmittedPixel, EmittedPixels, Frame, Read, Shape, Step};
+use crate::frame::EmittedList;
 use crate::inputs::Inputs;
 use crate::library::{Geometry, Mode, Scissor, Uniform};
 use crate::shapes::{any_shape, flawed, rectangle, triangles, TRIANGLES};
@@ -237,15 +238,60 @@ pub fn read(inputs: &mut Inputs, (width, height): (u32, u32)) -> Read {
     Read { pixel: if inputs.below(16) == 0 { past } else { inside }, fmt, siz, rgb_dither, big_endian: inputs.flag() }
 }
 
-/// A frame, in one of ten cases one that numbers 1 to 3 may refuse, and a word read on it.
-pub fn frame_and_read(inputs: &mut Inputs, class: Class) -> (Frame, Read) {
+/// A frame, in one of ten cases one that numbers 1 to 3 may refuse, and a call on it.
+fn frame_and<T>(inputs: &mut Inputs, class: Class, call: impl Fn(&mut Inputs, (u32, u32)) -> T) -> (Frame, T) {
     let size = size(inputs, class);
     let mut frame = frame(inputs, size);
-    let read = read(inputs, size);
+    let call = call(inputs, size);
     if inputs.below(10) == 0 {
         break_frame(inputs, &mut frame);
     }
-    (frame, read)
+    (frame, call)
+}
+
+pub fn frame_and_read(inputs: &mut Inputs, class: Class) -> (Frame, Read) {
+    frame_and(inputs, class, read)
+}
+
+pub fn frame_and_draw(inputs: &mut Inputs, class: Class) -> (Frame, Draw) {
+    frame_and(inputs, class, |inputs, size| draw(inputs, size, class))
+}
+
+/// The place of an emitted pixel, mostly one of the first `about` or just behind them.
+fn emitted_place(inputs: &mut Inputs, about: u32) -> u64 {
+    match inputs.below(16) {
+        0 => u64::MAX - u64::from(inputs.below(8)),
+        1 => inputs.bits(),
+        2 => inputs.pick(&[1 << 32, u64::from(u32::MAX), about.into()]),
+        3..=6 => inputs.below(4).into(),
+        _ => inputs.below(about + 2).into(),
+    }
+}
+
+/// One of the pixels that the draw emits, which are `about` so many, or a run of them over slices of any bytes, mostly of one
+/// length.
+fn emitted(inputs: &mut Inputs, draw: Draw, about: u32) -> Step {
+    let place = emitted_place(inputs, about);
+    if inputs.flag() {
+        return Step::EmittedPixel(Box::new(EmittedPixel { draw, k: place }));
+    }
+    let slots = inputs.below(about.min(20) + 3);
+    let masks = if inputs.below(8) == 0 { inputs.below(slots + 3) } else { slots };
+    let pixels = (0..slots).map(|_| inputs.word()).collect();
+    let masks = (0..masks).map(|_| inputs.byte()).collect();
+    Step::EmittedPixels(Box::new(EmittedPixels { draw, first: place, pixels, masks }))
+}
+
+/// The calls, some draws among which are asked for their pixels before they are made.
+fn asked(inputs: &mut Inputs, steps: Vec<Step>, pixels: u32) -> Vec<Step> {
+    let mut all = Vec::new();
+    for step in steps {
+        if let (Step::Draw(draw), 0) = (&step, inputs.below(4)) {
+            all.push(emitted(inputs, draw.as_ref().clone(), pixels));
+        }
+        all.push(step);
+    }
+    all
 }
 
 impl List {
@@ -264,12 +310,36 @@ impl List {
             0 => Step::Read(read(inputs, size)),
             _ => Step::Draw(Box::new(draw(inputs, size, class))),
         };
-        let steps = (0..calls).map(|_| step(inputs)).collect();
+        let mut steps: Vec<Step> = (0..calls).map(|_| step(inputs)).collect();
+        if class != Class::Recorded {
+            steps = asked(&mut inputs.aside(), steps, size.0 * size.1);
+        }
         if broken && class != Class::Whole {
             break_frame(inputs, &mut frame);
             if inputs.flag() {
                 break_frame(inputs, &mut frame);
             }
+        }
+        List { frame, steps }
+    }
+
+    /// Three calls, to be written down, most of which ask for the pixels of a draw that emits some.
+    pub fn of_emitted(inputs: &mut Inputs) -> List {
+        let size = size(inputs, Class::Recorded);
+        let mut frame = frame(inputs, size);
+        let step = |inputs: &mut Inputs| loop {
+            let draw = draw(inputs, size, Class::Recorded);
+            let about = EmittedList::of(&frame, &draw).pixels().len() as u32;
+            match inputs.below(16) {
+                0 => return Step::Draw(Box::new(draw)),
+                // One that emits nothing, or is turned away, is mostly passed over.
+                1..=10 if about == 0 => {}
+                _ => return emitted(inputs, draw, about),
+            }
+        };
+        let steps = (0..3).map(|_| step(inputs)).collect();
+        if inputs.below(5) == 0 {
+            break_frame(inputs, &mut frame);
         }
         List { frame, steps }
     }

@@ -9,8 +9,8 @@ use oracle::compare_numbers::one_float;
 use oracle::compare_selectors::table;
 use oracle::inputs::SEED;
 use oracle::{
-    compare_combiner, compare_frame, compare_numbers, compare_pack, compare_pixel, compare_raster, compare_runs,
-    compare_selectors,
+    compare_combiner, compare_emitted, compare_frame, compare_numbers, compare_pack, compare_pixel, compare_raster,
+    compare_runs, compare_selectors,
 };
 use std::process::ExitCode;
 
@@ -52,8 +52,9 @@ const COMPARISONS: [(&str, Comparison); 26] = [
 /// What is compared in draws and lists of them, with lines of its own.
 type Counted = fn(u64, f64) -> Result<Vec<Line>, String>;
 
-const COUNTED: [(&str, Counted); 3] = [
+const COUNTED: [(&str, Counted); 4] = [
     ("rasterize", |seed, scale| Ok(run(seed, scale, compare_raster::rasterize)?.lines())),
+    ("emitted", |seed, scale| Ok(run(seed, scale, compare_emitted::emitted)?.lines())),
     ("draw", |seed, scale| Ok(run(seed, scale, compare_frame::lists)?.lines())),
     ("read_words", |seed, scale| Ok(run(seed, scale, compare_runs::runs)?.lines())),
 ];

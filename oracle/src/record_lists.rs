@@ -5,27 +5,47 @@ use crate::draws::Step;
 use crate::frame::Branches;
 use crate::inputs::Inputs;
 use crate::lists::{Class, List};
+use std::collections::BTreeSet;
 
-/// A list's lines: its frame, and then its calls in turn.
-fn list(lines: &mut Vec<String>, list: List) {
+/// A list's lines: its frame, and then its calls in turn; and of the emitted pixels that it asks for the kind of each call and
+/// its number.
+fn list(list: List) -> (Vec<String>, BTreeSet<(&'static str, u32)>) {
     let mut frame = list.frame;
-    lines.push(format!("frame {}", frame.text()));
+    let mut lines = vec![format!("frame {}", frame.text())];
+    let mut numbers = BTreeSet::new();
     for step in list.steps {
-        let (number, value) = on_original(&mut frame, &step, &mut Branches::default());
+        let answer = on_original(&mut frame, &step, &mut Branches::default());
         let slices = match step {
             Step::Draw(_) => format!(" {}", frame.slices()),
-            Step::Read(_) => String::new(),
+            _ => String::new(),
         };
-        lines.push(format!("{} = {number:08x} {value:08x}{slices}", step.text()));
+        match step {
+            Step::EmittedPixel(_) => drop(numbers.insert(("mask", answer.number))),
+            Step::EmittedPixels(_) => drop(numbers.insert(("masks", answer.number))),
+            _ => {}
+        }
+        lines.push(format!("{} = {}{slices}", step.text(), answer.text()));
     }
+    (lines, numbers)
 }
 
-/// About three hundred calls.
+/// How many numbers the two calls for emitted pixels have together: 0 to 7, and 20 of a run.
+const EMITTED_NUMBERS: usize = 8 + 9;
+
+/// About three hundred draws and word reads, and then half as many calls of which most ask for emitted pixels: as many lists as
+/// are named, and those behind them that bring a number which did not come before.
 pub fn lines(seed: u64) -> Vec<String> {
-    let mut lines = Vec::new();
     let mut inputs = Inputs::new(seed);
-    for _ in 0..52 {
-        list(&mut lines, List::at_random(&mut inputs, Class::Recorded));
+    let mut lines: Vec<String> = (0..52).flat_map(|_| list(List::at_random(&mut inputs, Class::Recorded)).0).collect();
+    let mut seen = BTreeSet::new();
+    let mut lists = 0;
+    while lists < 52 || seen.len() < EMITTED_NUMBERS {
+        let (of_list, numbers) = list(List::of_emitted(&mut inputs));
+        if lists < 52 || !numbers.is_subset(&seen) {
+            lines.extend(of_list);
+            seen.extend(numbers);
+        }
+        lists += 1;
     }
     lines
 }

@@ -6,6 +6,7 @@
 
 use crate::draws::Shape;
 use crate::library::{Answer, ColorAnswer, Combiner, CombinerAnswer, Mode, Rgba, Selectors, StrictAnswer, Uniform};
+use crate::words::Words;
 use original::combiner::{AlphaIn, ColorIn, CycleSel};
 use original::writeback::{self, Parts};
 use original::{coherence, CombinerUniform, FramebufferEncoding, RenderMode};
@@ -200,6 +201,29 @@ pub fn shape(mode: Mode, parts: Parts, shape: &Shape) -> writeback::Shape {
     let floats = vertices.chunks_exact(6).map(|v| [v[0], v[1], v[2], v[3], v[4], v[5]]);
     let vertices = floats.zip(present).map(|(floats, flag)| (*flag == 1).then_some(floats));
     writeback::Shape::new(parts, render_mode(mode), *cull, scissor, geometry, vertices)
+}
+
+/// An emitted pixel: its number, the mask of its samples, its colour and its shade alpha.
+pub type Fragment = (usize, u8, Rgba, f32);
+
+/// What a draw emits, by the walk with masks: in all but the masks it must be what the unchanged `rasterize` emits, and their
+/// numbers of ones the counts that it hands on.
+pub fn emitted(shape: &writeback::Shape, (width, height): (u32, u32)) -> Vec<Fragment> {
+    let extent = (width as usize, height as usize);
+    let mut list = Vec::new();
+    shape.rasterize_masks(extent, |pixel, mask, color, alpha| list.push((pixel, mask, rgba(color), alpha)));
+    let mut unchanged = 0;
+    shape.rasterize(extent, |pixel, count, color, alpha| {
+        let same = list.get(unchanged).is_some_and(|with_mask: &Fragment| {
+            (with_mask.0, with_mask.1.count_ones() as u8) == (pixel, count)
+                && with_mask.2.alike(&rgba(color))
+                && with_mask.3.alike(&alpha)
+        });
+        assert!(same, "the walk with masks departs from rasterize at its pixel {unchanged}");
+        unchanged += 1;
+    });
+    assert_eq!(list.len(), unchanged, "the walk with masks has another length than rasterize");
+    list
 }
 
 // Number 11.

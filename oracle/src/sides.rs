@@ -1,11 +1,54 @@
-//! What carries out a list's calls, and the text of a call that came out differently on two frames.
+//! What carries out a list's calls, what a call answers, and the text of one that came out differently on two frames.
 
-use crate::draws::{Frame, Read, Step};
-use crate::frame::{self, Emitted, Pen};
-use crate::library::{self, RunAnswer};
+use crate::draws::{slots, EmittedPixel, EmittedPixels, Frame, Read, Step};
+use crate::frame::{self, Emitted, EmittedList, Pen};
+use crate::library::{self, Answer, DrawAnswer, EmittedAnswer, EmittedRunAnswer, RunAnswer};
 
-/// A call's number, and the pixel count or the word.
-pub type Answered = (u32, u64);
+/// What a call answers.
+#[derive(Clone, Debug, Default, PartialEq)]
+pub struct Answered {
+    pub number: u32,
+    /// The pixel count; the word; an emitted pixel and its mask; or how many pixels a run of them lists and how many there
+    /// are.
+    pub values: Vec<u64>,
+    /// The two slices of a run of emitted pixels, as it leaves them.
+    pub slots: Option<(Vec<u32>, Vec<u8>)>,
+}
+
+impl From<DrawAnswer> for Answered {
+    fn from(DrawAnswer { number, pixels }: DrawAnswer) -> Self {
+        Answered { number, values: vec![pixels], slots: None }
+    }
+}
+
+impl From<Answer> for Answered {
+    fn from(Answer { number, value }: Answer) -> Self {
+        Answered { number, values: vec![value.into()], slots: None }
+    }
+}
+
+impl From<EmittedAnswer> for Answered {
+    fn from(EmittedAnswer { number, pixel, mask }: EmittedAnswer) -> Self {
+        Answered { number, values: vec![pixel.into(), mask.into()], slots: None }
+    }
+}
+
+impl Answered {
+    /// Of a run of emitted pixels, which is handed the slices as they are before it.
+    pub fn run(run: &EmittedPixels, ask: impl FnOnce(&mut [u32], &mut [u8]) -> EmittedRunAnswer) -> Self {
+        let (mut pixels, mut masks) = (run.pixels.clone(), run.masks.clone());
+        let EmittedRunAnswer { number, listed, emitted } = ask(&mut pixels, &mut masks);
+        Answered { number, values: vec![listed, emitted], slots: Some((pixels, masks)) }
+    }
+
+    /// As a sample's line has it.
+    pub fn text(&self) -> String {
+        let numbers = std::iter::once(self.number.into()).chain(self.values.iter().copied());
+        let mut words: Vec<String> = numbers.map(|number: u64| format!("{number:08x}")).collect();
+        words.extend(self.slots.iter().map(|(pixels, masks)| slots(pixels, masks)));
+        words.join(" ")
+    }
+}
 
 /// The library, or the frame of frame.rs.
 pub trait Side {
@@ -20,13 +63,14 @@ pub struct Library;
 impl Side for Library {
     fn call(&self, frame: &mut Frame, step: &Step) -> Answered {
         match step {
-            Step::Draw(draw) => {
-                let answer = library::draw(frame, draw);
-                (answer.number, answer.pixels)
+            Step::Draw(draw) => library::draw(frame, draw).into(),
+            Step::Read(read) => library::read_word(frame, read).into(),
+            Step::EmittedPixel(one) => {
+                let EmittedPixel { draw, k } = &**one;
+                library::emitted_pixel(frame, draw, *k).into()
             }
-            Step::Read(read) => {
-                let answer = library::read_word(frame, read);
-                (answer.number, answer.value.into())
+            Step::EmittedPixels(run) => {
+                Answered::run(run, |pixels, masks| library::emitted_pixels(frame, &run.draw, run.first, pixels, masks))
             }
         }
     }
@@ -36,16 +80,15 @@ impl Side for Library {
     }
 }
 
-/// A call on the frame of frame.rs, where every emitted pixel is handed to `put`.
+/// A call on the frame of frame.rs, where every pixel that a draw puts on it is handed to `put`.
 pub fn on_frame(frame: &mut Frame, step: &Step, put: impl FnMut(&Pen, &mut Frame, usize, &Emitted)) -> Answered {
     match step {
-        Step::Draw(draw) => {
-            let answer = frame::draw_with(frame, draw, put);
-            (answer.number, answer.pixels)
-        }
-        Step::Read(read) => {
-            let answer = frame::read_word(frame, read);
-            (answer.number, answer.value.into())
+        Step::Draw(draw) => frame::draw_with(frame, draw, put).into(),
+        Step::Read(read) => frame::read_word(frame, read).into(),
+        Step::EmittedPixel(one) => EmittedList::of(frame, &one.draw).pixel(one.k).into(),
+        Step::EmittedPixels(run) => {
+            let list = EmittedList::of(frame, &run.draw);
+            Answered::run(run, |pixels, masks| list.run(run.first, pixels, masks))
         }
     }
 }
@@ -77,16 +120,20 @@ pub struct Ran<'a> {
     pub step: &'a Step,
     pub before: [&'a Frame; 2],
     pub after: [&'a Frame; 2],
-    pub answers: [Answered; 2],
+    pub answers: [&'a Answered; 2],
 }
 
 impl Ran<'_> {
+    /// Whether a call that draws nothing left both frames as they were.
+    pub fn untouched(&self) -> bool {
+        matches!(self.step, Step::Draw(_)) || self.before == self.after
+    }
+
     /// The text of a difference, of which `place` says where it shows first.
     pub fn difference(&self, title: &str, names: [&str; 2], place: &str) -> String {
         let mut text = format!("{title}: DIFFERENT\n  call: {}\n  differs first: {place}", self.step.text());
         for (i, name) in names.iter().enumerate() {
-            let (number, value) = self.answers[i];
-            text += &format!("\n  {name}: {number:08x} {value:08x}");
+            text += &format!("\n  {name}: {}", self.answers[i].text());
             text +=
                 &format!("\n    frame before: {}\n    frame after: {}", shown(self.before[i]), shown(self.after[i]));
         }

@@ -3,8 +3,8 @@
 //! library is asked nothing.
 
 use oracle::compare_known::{known_frame, two_runs};
-use oracle::draws::{Frame, Read, Step};
-use oracle::frame::{self, Branches, Emitted, Pen, DOUBT, YES};
+use oracle::draws::{Draw, Frame, Read, Step};
+use oracle::frame::{self, Branches, Emitted, EmittedList, Pen, DOUBT, YES};
 use oracle::inputs::{Inputs, SEED};
 use oracle::library::RunAnswer;
 use oracle::lists::{Class, List};
@@ -29,11 +29,17 @@ enum Fault {
     ReadZero,
     /// The same in runs of words alone, which two runs do not make.
     RunZero,
+    /// A draw's pixels are listed without those whose coverage byte, marked or not, is above 7.
+    ListShows,
+    /// A draw's pixels are listed without those whose coverage is unmarked.
+    ListMarked,
+    /// Asked for its pixels, a draw is drawn.
+    ListDraws,
 }
 
-/// Each fault, and whether two runs notice it. All but one work on what is known alone, so that unknown bytes do not show. The
-/// known frame notices every one.
-const FAULTS: [(Fault, bool); 7] = [
+/// Each fault, and whether two runs notice it. Those that they do not notice work on what is known alone, so that unknown bytes do
+/// not show. The known frame notices every one.
+const FAULTS: [(Fault, bool); 10] = [
     (Fault::DoubtStored, false),
     (Fault::CoverageFull, false),
     (Fault::ColorZeros, false),
@@ -41,6 +47,9 @@ const FAULTS: [(Fault, bool); 7] = [
     (Fault::MarkAlone, true),
     (Fault::ReadZero, false),
     (Fault::RunZero, false),
+    (Fault::ListShows, true),
+    (Fault::ListMarked, false),
+    (Fault::ListDraws, true),
 ];
 
 /// The frame of frame.rs, with one of its rules changed or none.
@@ -49,6 +58,20 @@ struct Planted(Option<Fault>);
 impl Planted {
     fn has(&self, fault: Fault) -> bool {
         self.0 == Some(fault)
+    }
+
+    /// The pixels that a draw emits, but for the fault.
+    fn list(&self, frame: &mut Frame, draw: &Draw) -> EmittedList {
+        let list = EmittedList::of(frame, draw);
+        match self.0 {
+            Some(Fault::ListShows) => list.kept(|pixel| frame.coverages[pixel] < 8),
+            Some(Fault::ListMarked) => list.kept(|pixel| frame.marks[pixel] >= 2),
+            Some(Fault::ListDraws) => {
+                frame::draw(frame, draw, &mut Branches::default());
+                list
+            }
+            _ => list,
+        }
     }
 
     /// F1 to F5 on one pixel, as `Pen::put` has them but for the fault.
@@ -88,10 +111,16 @@ fn zeroed(frame: &Frame) -> Frame {
 impl Side for Planted {
     fn call(&self, frame: &mut Frame, step: &Step) -> Answered {
         if let (Step::Read(read), true) = (step, self.has(Fault::ReadZero)) {
-            let answer = frame::read_word(&zeroed(frame), read);
-            return (answer.number, answer.value.into());
+            return frame::read_word(&zeroed(frame), read).into();
         }
-        on_frame(frame, step, |pen, frame, pixel, emitted| self.put(pen, frame, pixel, emitted))
+        match step {
+            Step::EmittedPixel(one) => self.list(frame, &one.draw).pixel(one.k).into(),
+            Step::EmittedPixels(run) => {
+                let list = self.list(frame, &run.draw);
+                Answered::run(run, |pixels, masks| list.run(run.first, pixels, masks))
+            }
+            _ => on_frame(frame, step, |pen, frame, pixel, emitted| self.put(pen, frame, pixel, emitted)),
+        }
     }
 
     fn run(&self, frame: &Frame, read: &Read, words: &mut [u8], numbers: &mut [u8]) -> RunAnswer {

@@ -2,13 +2,14 @@
 //! call away. After each call the answer and every byte must be the same.
 
 use oracle::draws::{self, Read, Step};
-use oracle::frame::{self, Branches};
+use oracle::frame::{self, Branches, EmittedList};
 use oracle::inputs::Inputs;
 use oracle::library::{Mode, Rgba, Uniform};
 use oracle::lists::{Class, List};
+use oracle::sides::{on_frame, Answered};
 use writeback::{
-    AlphaCompare, BlendClass, CombinerUniform, Draw, Encoding, Frame, Geometry, Refusal, RenderMode, Scissor, Vertices,
-    Writer, ZMode,
+    AlphaCompare, BlendClass, CombinerUniform, Draw, EmittedPixel, Encoding, Frame, Geometry, Refusal, RenderMode,
+    Scissor, Vertices, Writer, ZMode,
 };
 
 const LISTS: u64 = 20_000;
@@ -84,18 +85,22 @@ fn geometry(geometry: oracle::library::Geometry) -> Geometry {
     }
 }
 
-fn player_draw(frame: &mut Frame, draw: &draws::Draw) -> Result<u64, Refusal> {
+fn vertices(draw: &draws::Draw) -> Vertices {
+    Vertices::from_parts(draw.shape.vertices.clone(), draw.shape.present.clone())
+}
+
+fn player_draw<'a>(draw: &'a draws::Draw, vertices: &'a Vertices) -> Draw<'a> {
     let shape = &draw.shape;
     let oracle::library::Scissor { left, top, width, height } = shape.scissor;
-    frame.draw(&Draw {
+    Draw {
         mode: render_mode(draw.mode),
         uniform: combiner_uniform(draw.uniform),
         cull: shape.cull,
         scissor: Scissor { left, top, width, height },
         geometry: geometry(shape.geometry),
-        vertices: &Vertices::from_parts(shape.vertices.clone(), shape.present.clone()),
+        vertices,
         indices: &shape.indices,
-    })
+    }
 }
 
 fn writer(read: &Read) -> Writer {
@@ -103,31 +108,37 @@ fn writer(read: &Read) -> Writer {
     Writer { fmt: read.fmt, siz: read.siz, rgb_dither: read.rgb_dither, encoding }
 }
 
-/// The number, and the pixels or the word.
-type Answered = (u32, u64);
-
-fn answered(answer: Result<u64, Refusal>) -> Answered {
-    answer.map_or_else(|refusal| (refusal.number(), 0), |value| (0, value))
+/// The values, or zeros beside a number.
+fn answered<const N: usize>(answer: Result<[u64; N], Refusal>) -> Answered {
+    let number = answer.map_or_else(Refusal::number, |_| 0);
+    Answered { number, values: answer.unwrap_or([0; N]).to_vec(), slots: None }
 }
 
 fn on_player(frame: &mut Frame, step: &Step) -> Answered {
-    answered(match step {
-        Step::Draw(draw) => player_draw(frame, draw),
-        Step::Read(read) => frame.read_word(read.pixel, &writer(read)).map(|word| u16::from_le_bytes(word).into()),
-    })
+    match step {
+        Step::Draw(draw) => answered(frame.draw(&player_draw(draw, &vertices(draw))).map(|pixels| [pixels])),
+        Step::Read(read) => {
+            let word = frame.read_word(read.pixel, &writer(read));
+            answered(word.map(|word| [u16::from_le_bytes(word).into()]))
+        }
+        Step::EmittedPixel(one) => {
+            let emitted = frame.emitted_pixel(&player_draw(&one.draw, &vertices(&one.draw)), one.k);
+            let pixel = |EmittedPixel { pixel, mask }| [pixel as u64, mask.into()];
+            answered(emitted.map(|emitted| emitted.map_or([0; 2], pixel)))
+        }
+        Step::EmittedPixels(run) => {
+            let (mut pixels, mut masks) = (run.pixels.clone(), run.masks.clone());
+            let vertices = vertices(&run.draw);
+            let draw = player_draw(&run.draw, &vertices);
+            let ran = frame.emitted_pixels_from(&draw, run.first, &mut pixels, &mut masks);
+            let answer = answered(ran.map(|ran| [ran.listed, ran.emitted]));
+            Answered { slots: Some((pixels, masks)), ..answer }
+        }
+    }
 }
 
 fn on_original(frame: &mut draws::Frame, step: &Step) -> Answered {
-    match step {
-        Step::Draw(draw) => {
-            let answer = frame::draw(frame, draw, &mut Branches::default());
-            (answer.number, answer.pixels)
-        }
-        Step::Read(read) => {
-            let answer = frame::read_word(frame, read);
-            (answer.number, answer.value.into())
-        }
-    }
+    on_frame(frame, step, |pen, frame, pixel, emitted| pen.put(frame, pixel, emitted, &mut Branches::default()))
 }
 
 fn player_frame(frame: &draws::Frame) -> Frame {
@@ -160,12 +171,24 @@ fn check_run(inputs: &mut Inputs, player: &Frame, original: &draws::Frame, read:
     read
 }
 
+/// The whole list of a draw's pixels. Answers how many there are.
+fn check_list(player: &Frame, original: &draws::Frame, draw: &draws::Draw) -> u64 {
+    let expected = EmittedList::of(original, draw);
+    let list = player.emitted_pixels(&player_draw(draw, &vertices(draw)));
+    assert_eq!(list.as_ref().map_or_else(|refusal| refusal.number(), |_| 0), expected.number());
+    let pairs: Vec<_> = list.iter().flatten().map(|emitted| (emitted.pixel as u32, emitted.mask)).collect();
+    assert_eq!(pairs, expected.pixels());
+    pairs.len() as u64
+}
+
 /// How often each number came.
 #[derive(Default)]
 struct Counts {
-    draws: [u64; 11],
+    draws: [u64; 8],
     reads: [u64; 11],
     words: u64,
+    emitted: [u64; 21],
+    listed: u64,
 }
 
 fn check(inputs: &mut Inputs, list: &List, counts: &mut Counts) {
@@ -176,13 +199,18 @@ fn check(inputs: &mut Inputs, list: &List, counts: &mut Counts) {
         let answers = (on_player(&mut player, step), on_original(&mut original, step));
         assert_eq!(answers.0, answers.1, "player and Rust differ: {} on {before}", step.text());
         assert!(same(&player, &original), "the frames differ after {} on {before}", step.text());
-        let number = answers.1 .0 as usize;
+        let number = answers.1.number as usize;
         match step {
             Step::Draw(_) => counts.draws[number] += 1,
             Step::Read(read) => {
                 counts.reads[number] += 1;
                 counts.words += check_run(inputs, &player, &original, read);
             }
+            Step::EmittedPixel(one) => {
+                counts.emitted[number] += 1;
+                counts.listed += check_list(&player, &original, &one.draw);
+            }
+            Step::EmittedPixels(_) => counts.emitted[number] += 1,
         }
     }
 }
@@ -196,9 +224,12 @@ fn lists_at_random() {
         let list = List::at_random(&mut inputs, class);
         check(&mut inputs, &list, &mut counts);
     }
-    let Counts { draws, reads, words } = counts;
+    let Counts { draws, reads, words, emitted, listed } = counts;
     println!("{LISTS} lists; draws by number {draws:?}, reads by number {reads:?}, {words} words in runs");
-    assert!(draws[..=7].iter().all(|count| *count > 100), "{draws:?}");
+    println!("emitted pixels by number {emitted:?}, {listed} in whole lists");
+    assert!(draws.iter().all(|count| *count > 100), "{draws:?}");
+    assert!((0..8).chain([20]).all(|number| emitted[number] > 100), "{emitted:?}");
+    assert!(listed > 10_000, "{listed}");
     assert!([0, 1, 2, 3, 8, 9, 10].iter().all(|number| reads[*number] > 100), "{reads:?}");
     assert!(words > 10_000, "{words}");
 }

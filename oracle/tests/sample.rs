@@ -10,7 +10,7 @@ mod script;
 mod words;
 
 use oracle::draws::{Draw, Frame, Read, Shape};
-use oracle::frame::{self, Branches};
+use oracle::frame::{self, Branches, EmittedList};
 use oracle::library::{Geometry, Mode, Scissor, Uniform};
 use oracle::rust::rgba;
 use script::{Area, Bytes, Script, Step};
@@ -113,24 +113,43 @@ fn answer(result: Result<String, u32>) -> String {
     result.unwrap_or_else(|number| format!("turned away, number {number}"))
 }
 
-/// The call's line, if the step is a call.
-fn line(frame: &mut Frame, step: Step) -> Option<String> {
+/// How many pixels, or the number.
+fn pixels(number: u32, pixels: u64) -> String {
+    let counted = format!("{pixels} pixel{}", if pixels == 1 { "" } else { "s" });
+    answer(if number == 0 { Ok(counted) } else { Err(number) })
+}
+
+/// The lines of emitted pixels, neighbours with one mask in one.
+fn stretches(list: &EmittedList) -> Vec<String> {
+    let stretches = list.pixels().chunk_by(|a, b| a.1 == b.1 && a.0 + 1 == b.0);
+    let line = |stretch: &[(u32, u8)]| match (stretch[0], stretch[stretch.len() - 1].0) {
+        ((first, mask), last) if first == last => format!("  pixel {first}: {mask:02x}"),
+        ((first, mask), last) => format!("  pixels {first} to {last}: {mask:02x}"),
+    };
+    stretches.map(line).collect()
+}
+
+/// The call's lines, if the step is a call.
+fn lines(frame: &mut Frame, step: Step) -> Vec<String> {
     match step {
         Step::Write(area, bytes) => {
             write(frame, area, bytes);
-            None
+            vec![]
         }
         Step::Draw(name, found) => {
             let drawn = frame::draw(frame, &draw(found), &mut Branches::default());
-            let pixels = format!("{} pixel{}", drawn.pixels, if drawn.pixels == 1 { "" } else { "s" });
-            let result = if drawn.number == 0 { Ok(pixels) } else { Err(drawn.number) };
-            Some(format!("{name}: {}", answer(result)))
+            vec![format!("{name}: {}", pixels(drawn.number, drawn.pixels))]
         }
-        Step::Word { pixel, writer } => Some(format!("word {pixel}: {}", answer(word(frame, pixel, writer)))),
+        Step::Masks(name, found) => {
+            let list = EmittedList::of(frame, &draw(found));
+            let call = format!("masks {name}: {}", pixels(list.number(), list.pixels().len() as u64));
+            std::iter::once(call).chain(stretches(&list)).collect()
+        }
+        Step::Word { pixel, writer } => vec![format!("word {pixel}: {}", answer(word(frame, pixel, writer)))],
         Step::Words { first, count, writer } => {
             let word = |i| word(frame, first + i, writer).unwrap_or_else(|_| "----".into());
             let words: String = (0..count).map(|i| format!(" {}", word(i))).collect();
-            Some(format!("words {first} {count}:{words}"))
+            vec![format!("words {first} {count}:{words}")]
         }
     }
 }
@@ -146,9 +165,11 @@ fn recorded_lines() {
         let Some(step) = script.line(text).unwrap() else {
             continue;
         };
-        if let Some(line) = line(&mut frame, step) {
-            assert_eq!(recorded.next(), Some(&*format!("line {}: {line}", index + 1)));
-            calls += 1;
+        for (i, line) in lines(&mut frame, step).iter().enumerate() {
+            // The first is the call's, and the others are the pixels'.
+            let line = if i == 0 { format!("line {}: {line}", index + 1) } else { line.clone() };
+            assert_eq!(recorded.next(), Some(&*line));
+            calls += u64::from(i == 0);
         }
     }
     assert_eq!(script.size(), Ok((frame.width, frame.height)));

@@ -1,4 +1,5 @@
-//! A page as a player draws it: a frame, a shaded triangle, a draw that is turned away, and the words that the game reads back.
+//! A page as a player draws it: a frame, a shaded triangle and the samples of its edges, a draw that is turned away, and the words
+//! that the game reads back.
 //!
 //!     cargo run --offline --example page
 
@@ -27,6 +28,11 @@ fn main() -> Result<(), Refusal> {
         ..Draw::default()
     };
     println!("{} pixels", frame.draw(&draw)?);
+
+    // Along its edges a triangle hits some of a pixel's eight samples: outlines are made smooth from them.
+    for edge in frame.emitted_pixels(&draw)?.iter().filter(|emitted| emitted.count() < 8).take(3) {
+        println!("pixel {}: samples at {:?} eighths", edge.pixel, edge.samples().collect::<Vec<_>>());
+    }
 
     // There is no vertex 3. The line is what a log should have.
     if let Err(refusal) = frame.draw(&Draw { indices: &[0, 1, 3], ..draw }) {

@@ -7,10 +7,12 @@
 
 #![allow(unsafe_code)]
 
-use crate::{CombinerUniform, Draw, Encoding, Geometry, Refusal, RenderMode, Scissor, Writer};
+use crate::{
+    CombinerUniform, Draw, EmittedPixel, EmittedRun, Encoding, Geometry, Refusal, RenderMode, Scissor, Writer,
+};
 use writeback_sys::{
-    wb_decode_combine, wb_draw, wb_geometry, wb_mode, wb_read_word, wb_read_words, wb_rgba, wb_scissor, wb_selectors,
-    wb_uniform,
+    wb_decode_combine, wb_draw, wb_emitted_pixel, wb_emitted_pixels, wb_geometry, wb_mode, wb_read_word, wb_read_words,
+    wb_rgba, wb_scissor, wb_selectors, wb_uniform,
 };
 
 fn mode(mode: &RenderMode) -> wb_mode {
@@ -145,6 +147,81 @@ pub(crate) fn draw(frame: FrameMut, draw: &Draw) -> Result<u64, Refusal> {
         )
     };
     answer(drawn.number, drawn.pixels)
+}
+
+/// None past the last pixel.
+pub(crate) fn emitted_pixel(frame: Frame, draw: &Draw, k: u64) -> Result<Option<EmittedPixel>, Refusal> {
+    let Frame { width, height, colors, coverages, marks } = frame;
+    let (floats, present, indices) = (draw.vertices.floats(), draw.vertices.present(), draw.indices);
+    // SAFETY: each pointer and length is a slice's that is borrowed for the call.
+    let emitted = unsafe {
+        wb_emitted_pixel(
+            width,
+            height,
+            colors.as_ptr(),
+            colors.len(),
+            coverages.as_ptr(),
+            coverages.len(),
+            marks.as_ptr(),
+            marks.len(),
+            mode(&draw.mode),
+            uniform(&draw.uniform),
+            draw.cull,
+            scissor(draw.scissor),
+            geometry(draw.geometry),
+            floats.as_ptr(),
+            floats.len(),
+            present.as_ptr(),
+            present.len(),
+            indices.as_ptr(),
+            indices.len(),
+            k,
+        )
+    };
+    // A mask has eight bits.
+    let found = EmittedPixel { pixel: emitted.pixel as usize, mask: emitted.mask as u8 };
+    answer(emitted.number, (found.mask != 0).then_some(found))
+}
+
+pub(crate) fn emitted_pixels(
+    frame: Frame,
+    draw: &Draw,
+    first: u64,
+    pixels: &mut [u32],
+    masks: &mut [u8],
+) -> Result<EmittedRun, Refusal> {
+    let Frame { width, height, colors, coverages, marks } = frame;
+    let (floats, present, indices) = (draw.vertices.floats(), draw.vertices.present(), draw.indices);
+    // SAFETY: each pointer and length is a slice's that is borrowed for the call, the two that are written by `&mut`.
+    let run = unsafe {
+        wb_emitted_pixels(
+            width,
+            height,
+            colors.as_ptr(),
+            colors.len(),
+            coverages.as_ptr(),
+            coverages.len(),
+            marks.as_ptr(),
+            marks.len(),
+            mode(&draw.mode),
+            uniform(&draw.uniform),
+            draw.cull,
+            scissor(draw.scissor),
+            geometry(draw.geometry),
+            floats.as_ptr(),
+            floats.len(),
+            present.as_ptr(),
+            present.len(),
+            indices.as_ptr(),
+            indices.len(),
+            first,
+            pixels.as_mut_ptr(),
+            pixels.len(),
+            masks.as_mut_ptr(),
+            masks.len(),
+        )
+    };
+    answer(run.number, EmittedRun { listed: run.listed, emitted: run.emitted })
 }
 
 pub(crate) fn read_word(frame: Frame, pixel: usize, writer: &Writer) -> Result<[u8; 2], Refusal> {

@@ -1,6 +1,6 @@
 //! The frame: which colours and coverages are known, and the calls on it.
 
-use crate::{ffi, Draw, Refusal, Writer};
+use crate::{ffi, Draw, EmittedPixel, EmittedRun, Refusal, Writer};
 
 /// Set where a pixel's colour is known.
 const COLOR: u8 = 1;
@@ -118,6 +118,58 @@ impl Frame {
     fn lent(&self) -> ffi::Frame<'_> {
         let Frame { width, height, colors, coverages, marks } = self;
         ffi::Frame { width: *width, height: *height, colors, coverages, marks }
+    }
+
+    /// The pixel that [`Frame::draw`] would emit at place `k`, counted from 0 and with repeats; `None` where it emits no more
+    /// than `k`. Nothing is drawn. It is turned away with numbers 1 to 7, as the draw would be.
+    ///
+    /// Every call goes through the draw's pixels up to that place: [`Frame::emitted_pixels`] lists all of them for the price
+    /// of the last.
+    pub fn emitted_pixel(&self, draw: &Draw, k: u64) -> Result<Option<EmittedPixel>, Refusal> {
+        ffi::emitted_pixel(self.lent(), draw, k)
+    }
+
+    /// The pixels that [`Frame::draw`] would emit at the places `first`, `first + 1`, .. in turn, as many as there are slots in
+    /// `pixels` and `masks`: their numbers, and the masks of their samples (see [`EmittedPixel`]). Slots past the last pixel
+    /// are 0 in both; the mask of a pixel never is. It answers how many there are. Nothing is drawn.
+    ///
+    /// It is turned away with numbers 1 to 7, as the draw would be, and then with number 20 where the two slices have not the
+    /// same length; and then changes nothing.
+    pub fn emitted_pixels_from(
+        &self,
+        draw: &Draw,
+        first: u64,
+        pixels: &mut [u32],
+        masks: &mut [u8],
+    ) -> Result<EmittedRun, Refusal> {
+        ffi::emitted_pixels(self.lent(), draw, first, pixels, masks)
+    }
+
+    /// Every pixel that [`Frame::draw`] would emit, in order and with repeats, and which of its samples are hit. Nothing is
+    /// drawn. It is turned away with numbers 1 to 7, as the draw would be.
+    ///
+    /// The list takes 16 bytes a pixel, and 5 more while it is made. A draw emits at most as many pixels as the frame has for
+    /// each of its triangles, which may come to 2^32 of them: [`Frame::emitted_pixels_from`] lists them in parts.
+    ///
+    /// ```
+    /// use writeback::{Draw, EmittedPixel, Frame, Geometry, RenderMode};
+    ///
+    /// // Three quarters of a pixel, of which the left samples of two rows are not hit.
+    /// let frame = Frame::new(4, 4)?;
+    /// let draw = Draw {
+    ///     mode: RenderMode { antialias: true, ..RenderMode::default() },
+    ///     geometry: Geometry::Rectangle { left: 0.25, top: 0.0, right: 1.0, bottom: 1.0 },
+    ///     ..Draw::default()
+    /// };
+    /// assert_eq!(frame.emitted_pixels(&draw)?, [EmittedPixel { pixel: 0, mask: 0x77 }]);
+    /// # Ok::<(), writeback::Refusal>(())
+    /// ```
+    pub fn emitted_pixels(&self, draw: &Draw) -> Result<Vec<EmittedPixel>, Refusal> {
+        let EmittedRun { emitted, .. } = self.emitted_pixels_from(draw, 0, &mut [], &mut [])?;
+        let (mut pixels, mut masks) = (vec![0; emitted as usize], vec![0; emitted as usize]);
+        self.emitted_pixels_from(draw, 0, &mut pixels, &mut masks)?;
+        let pixel = |(pixel, mask): (u32, u8)| EmittedPixel { pixel: pixel as usize, mask };
+        Ok(pixels.into_iter().zip(masks).map(pixel).collect())
     }
 
     /// The two bytes of a pixel's word, as the console's memory would hold them: where what the frame marks as known was right

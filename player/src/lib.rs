@@ -2,8 +2,8 @@
 //! library that is proved to do what its rules say.
 //!
 //! A [`Frame`] holds colours and coverages, with marks that say which are known. [`Frame::draw`] carries out a [`Draw`] on
-//! it; [`Frame::read_word`] answers a pixel as the game would read it from memory, and [`Frame::read_words`] many pixels at
-//! once. A call either succeeds or is turned away with a [`Refusal`], whose `Display` is one line for a log; then it changes
+//! it, and [`Frame::emitted_pixels`] lists the pixels that a draw would emit, each with the samples that it hits;
+//! [`Frame::read_word`] answers a pixel as the game would read it from memory, and [`Frame::read_words`] many pixels at once. A call either succeeds or is turned away with a [`Refusal`], whose `Display` is one line for a log; then it changes
 //! nothing. No call panics, whatever it is given. docs/RULES.md of the repository has the rules: which pixels a draw emits,
 //! what each does to colours, coverages and marks (F1 to F5), how words are made, and the numbers of the refusals.
 //!
@@ -46,6 +46,7 @@
 #![deny(missing_docs, unsafe_code)]
 
 mod draw;
+mod emitted;
 mod ffi;
 mod frame;
 mod mode;
@@ -55,6 +56,7 @@ mod uniform;
 mod word;
 
 pub use draw::{Draw, Geometry, Scissor, Vertex, Vertices};
+pub use emitted::{EmittedPixel, EmittedRun, SAMPLES};
 pub use frame::Frame;
 pub use mode::{AlphaCompare, BlendAlpha, BlendClass, BlendFactor, BlendSource, Blender, RenderMode, ZMode};
 pub use refusal::Refusal;

@@ -17,7 +17,7 @@ use std::fmt;
 pub struct Refusal(u32);
 
 /// Every number that a call of this crate answers, and its reason.
-const REASONS: [(Refusal, &str); 12] = [
+const REASONS: [(Refusal, &str); 13] = [
     (Refusal::SIZES, "width or height lies outside 1 to 1,024"),
     (Refusal::LENGTHS, "a frame slice has not exactly its length"),
     (Refusal::MARKS, "a mark is above 3, or a coverage marked known is above 7"),
@@ -46,6 +46,7 @@ const REASONS: [(Refusal, &str); 12] = [
          a pixel above 1,048,575",
     ),
     (Refusal::WORDS, "the words have not two bytes for each number"),
+    (Refusal::SLOTS, "the slices for pixels and masks have not the same length"),
 ];
 
 impl Refusal {
@@ -73,6 +74,8 @@ impl Refusal {
     pub const ARGUMENTS: Refusal = Refusal(11);
     /// Number 19: the words have not two bytes for each number.
     pub const WORDS: Refusal = Refusal(19);
+    /// Number 20: the slices for pixels and masks have not the same length.
+    pub const SLOTS: Refusal = Refusal(20);
 
     /// The refusal of a number, as [`Frame::read_words`](crate::Frame::read_words) gives them; 0 is none.
     pub const fn from_number(number: u32) -> Option<Refusal> {
@@ -131,11 +134,12 @@ mod tests {
     fn zero_is_no_refusal() {
         assert_eq!(Refusal::from_number(0), None);
         assert_eq!(Refusal::from_number(19), Some(Refusal::WORDS));
+        assert_eq!(Refusal::from_number(20), Some(Refusal::SLOTS));
     }
 
     #[test]
     fn every_number_has_one_line() {
-        for number in (1..=20).chain([u32::MAX]) {
+        for number in (1..=21).chain([u32::MAX]) {
             let line = Refusal::from_number(number).unwrap().to_string();
             assert!(line.starts_with(&format!("turned away, number {number}: ")), "{line}");
             assert!(!line.contains('\n'), "{line}");

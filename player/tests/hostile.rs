@@ -2,8 +2,8 @@
 //! that is turned away changes nothing.
 
 use writeback::{
-    AlphaCompare, AlphaIn, BlendClass, ColorIn, CombinerUniform, CycleSel, Draw, Encoding, Frame, Geometry, Refusal,
-    RenderMode, Scissor, Vertex, Vertices, Writer, ZMode,
+    AlphaCompare, AlphaIn, BlendClass, ColorIn, CombinerUniform, CycleSel, Draw, EmittedPixel, EmittedRun, Encoding,
+    Frame, Geometry, Refusal, RenderMode, Scissor, Vertex, Vertices, Writer, ZMode, SAMPLES,
 };
 
 fn flat() -> CombinerUniform {
@@ -28,12 +28,59 @@ fn corners() -> Vertices {
     [[0.0, 0.0], [8.0, 0.0], [0.0, 8.0]].into_iter().map(|position| Vertex { position, color: [1.0; 4] }).collect()
 }
 
-/// The draw's answer; turned away, it must leave the frame as it was.
+/// The draw's answer; turned away, it must leave the frame as it was. Asked for its pixels before, it must be answered alike,
+/// in every way in which they can be asked for.
 fn answer(frame: &mut Frame, draw: &Draw) -> Result<u64, u32> {
     let before = frame.clone();
+    let listed = listed(frame, draw).map_err(Refusal::number);
+    assert!(*frame == before, "asked for pixels, and changed something");
     let answer = frame.draw(draw).map_err(Refusal::number);
     assert!(answer.is_ok() || *frame == before, "turned away, and changed something");
+    assert_eq!(listed, answer);
     answer
+}
+
+/// What a slice holds before it is lent.
+const BEFORE: (u32, u8) = (0xa5a5_a5a5, 0xa5);
+
+/// The run over so many slots, and the slots behind it.
+fn slots(frame: &Frame, draw: &Draw, first: u64, count: usize) -> (Result<EmittedRun, Refusal>, Vec<(u32, u8)>) {
+    let (mut pixels, mut masks) = (vec![BEFORE.0; count], vec![BEFORE.1; count]);
+    let run = frame.emitted_pixels_from(draw, first, &mut pixels, &mut masks);
+    (run, pixels.into_iter().zip(masks).collect())
+}
+
+/// How many pixels the draw emits, or its number: the list, single pixels and runs must agree, and behind the last pixel there
+/// is none.
+fn listed(frame: &Frame, draw: &Draw) -> Result<u64, Refusal> {
+    let list = frame.emitted_pixels(draw);
+    let (run, slot) = slots(frame, draw, 0, 1);
+    let unequal = frame.emitted_pixels_from(draw, 0, &mut [BEFORE.0], &mut []);
+    let list = match list {
+        Ok(list) => list,
+        Err(refusal) => {
+            assert_eq!((run, unequal), (Err(refusal), Err(refusal)));
+            assert_eq!(slot, [BEFORE]);
+            assert!([0, 1, u64::MAX].iter().all(|k| frame.emitted_pixel(draw, *k) == Err(refusal)));
+            return Err(refusal);
+        }
+    };
+    assert_eq!(unequal, Err(Refusal::SLOTS));
+    let count = list.len() as u64;
+    let at = |k: u64| list.get(usize::try_from(k).unwrap()).copied();
+    let slot_of = |emitted: Option<EmittedPixel>| emitted.map_or((0, 0), |of| (of.pixel as u32, of.mask));
+    for k in [0, 1, count / 2, count.saturating_sub(1), count, count + 1, 1 << 32, u64::MAX - 1, u64::MAX] {
+        assert_eq!(frame.emitted_pixel(draw, k), Ok(at(k)), "place {k} of {count}");
+        let (run, slots) = slots(frame, draw, k, 3);
+        let left = count.saturating_sub(k);
+        assert_eq!(run, Ok(EmittedRun { listed: left.min(3), emitted: count }), "from {k} of {count}");
+        assert_eq!(slots, [0, 1, 2].map(|i| slot_of(k.checked_add(i).and_then(at))), "from {k} of {count}");
+    }
+    for emitted in &list {
+        assert!(emitted.pixel < frame.marks().len() && (1..=8).contains(&emitted.count()));
+        assert_eq!(emitted.samples().count() as u32, emitted.count());
+    }
+    Ok(count)
 }
 
 #[track_caller]
@@ -278,6 +325,76 @@ fn runs_of_words() {
         frame.snapshot(&Writer::RGBA16),
         [10, 0, 10, 10].map(|number| { Refusal::from_number(number).map_or(Ok(word), Err) })
     );
+}
+
+/// The worked values of docs/RULES.md that are about masks, and the order of a mask's bits.
+#[test]
+fn masks() {
+    let frame = Frame::new(4, 4).unwrap();
+    let smooth = RenderMode { antialias: true, ..whole().mode };
+    let masks = |draw: Draw| -> Vec<(usize, u8)> {
+        let list = frame.emitted_pixels(&draw).unwrap();
+        list.iter().map(|emitted| (emitted.pixel, emitted.mask)).collect()
+    };
+    let sides = |left, top, right, bottom| Draw {
+        mode: smooth,
+        geometry: Geometry::Rectangle { left, top, right, bottom },
+        ..whole()
+    };
+    assert_eq!(masks(sides(0.25, 0.0, 1.0, 1.0)), [(0, 0x77)]);
+    assert_eq!(masks(Draw { mode: whole().mode, ..sides(0.25, 0.0, 1.0, 1.0) }), []);
+    assert_eq!(masks(sides(1.5, 1.0, 3.0, 2.0)), [(5, 0x55), (6, 0xff)]);
+    // A rectangle of an eighth around each sample hits that one alone.
+    for (bit, [x, y]) in SAMPLES.into_iter().enumerate() {
+        let [x, y] = [x, y].map(|eighths| f32::from(eighths) / 8.0);
+        assert_eq!(masks(sides(2.0 + x, 3.0 + y, 2.125 + x, 3.125 + y)), [(14, 0x80 >> bit)]);
+        let emitted = EmittedPixel { pixel: 14, mask: 0x80 >> bit };
+        assert_eq!(emitted.samples().collect::<Vec<_>>(), [SAMPLES[bit]]);
+    }
+    let vertices: Vertices = [[0.0, 0.0], [0.125, 0.25], [1.0, 2.0]]
+        .into_iter()
+        .map(|position| Vertex { position, color: [1.0; 4] })
+        .collect();
+    let thin = Draw { geometry: Geometry::Triangles, vertices: &vertices, indices: &[0, 1, 2], ..whole() };
+    assert_eq!(masks(Draw { mode: smooth, ..thin }), [(4, 0x40)]);
+    assert_eq!(masks(thin), []);
+}
+
+/// Number 20 comes behind the others, and the slices stay as they were.
+#[test]
+fn slices_for_masks() {
+    let frame = Frame::new(2, 2).unwrap();
+    for (pixels, masks) in [(0, 1), (1, 0), (3, 4), (4, 3), (100, 0)] {
+        let (mut pixels, mut masks) = (vec![BEFORE.0; pixels], vec![BEFORE.1; masks]);
+        for first in [0, 4, u64::MAX] {
+            let run = frame.emitted_pixels_from(&whole(), first, &mut pixels, &mut masks);
+            assert_eq!(run, Err(Refusal::SLOTS));
+            let nothing = Draw { geometry: Geometry::Nothing, ..whole() };
+            let run = frame.emitted_pixels_from(&nothing, first, &mut pixels, &mut masks);
+            assert_eq!(run, Err(Refusal::GEOMETRY));
+        }
+        assert!(pixels.iter().all(|pixel| *pixel == BEFORE.0) && masks.iter().all(|mask| *mask == BEFORE.1));
+    }
+    let (run, slots) = slots(&frame, &whole(), 3, 3);
+    assert_eq!(run, Ok(EmittedRun { listed: 1, emitted: 4 }));
+    assert_eq!(slots, [(3, 0xff), (0, 0), (0, 0)]);
+}
+
+/// As many pixels as a frame has, again and again: places from one triangle into the next.
+#[test]
+fn pixels_that_come_again() {
+    let frame = Frame::new(8, 4).unwrap();
+    let vertices: Vertices = [[-8.0, -8.0], [64.0, -8.0], [-8.0, 64.0]]
+        .into_iter()
+        .map(|position| Vertex { position, color: [1.0; 4] })
+        .collect();
+    let draw = Draw { geometry: Geometry::Triangles, vertices: &vertices, indices: &[0, 1, 2].repeat(4096), ..whole() };
+    let last = EmittedPixel { pixel: 31, mask: 0xff };
+    assert_eq!(frame.emitted_pixel(&draw, 32 * 4096 - 1), Ok(Some(last)));
+    assert_eq!(frame.emitted_pixel(&draw, 32 * 4096), Ok(None));
+    let (run, slots) = slots(&frame, &draw, 32 * 4095 - 1, 2);
+    assert_eq!(run, Ok(EmittedRun { listed: 2, emitted: 32 * 4096 }));
+    assert_eq!(slots, [(31, 0xff), (0, 0xff)]);
 }
 
 /// Splitmix64.

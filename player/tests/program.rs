@@ -144,6 +144,54 @@ fn hostile_values() {
     );
 }
 
+/// A draw's pixels with their masks, and nothing drawn: the word read finds the colour unknown. Neighbours with one mask stand
+/// in one line, over a row's end too, and a triangle's pixels behind those of the triangle before it.
+#[test]
+fn masks() {
+    let (lines, log) = carried(
+        "frame 4 3\ncombine zero zero zero one zero zero zero one\nmasks rectangle 0.25 0 1 1\nmode antialias on\n\
+         masks rectangle 0.25 0 1 1 # as in the worked values\n  masks\trectangle 0 0 4 2.5\nmasks rectangle 4 0 5 3\n\
+         vertex 0 0 1 1 1 1\nvertex 0.125 0.25 1 1 1 1\nvertex 1 2 1 1 1 1\nvertex 2 0 1 1 1 1\nvertex 0 2 1 1 1 1\n\
+         masks triangles 0 1 2\nmasks triangles 0 3 4  0 1 2  0 3 4\nmasks triangles\nmasks nothing\nmasks triangles 0 1\n\
+         masks rectangle 0 0 1 1 9 9 9\nword 0\nscissor 0 0 65536 1\nmasks nothing 0\nmark 0 0 1 1 4\nmasks triangles 0\n",
+    );
+    assert_eq!(
+        lines,
+        "line 3: masks rectangle: 0 pixels\n\
+         line 5: masks rectangle: 1 pixel\n  pixel 0: 77\n\
+         line 6: masks rectangle: 12 pixels\n  pixels 0 to 7: ff\n  pixels 8 to 11: f0\n\
+         line 7: masks rectangle: 0 pixels\n\
+         line 13: masks triangles: 1 pixel\n  pixel 4: 40\n\
+         line 14: masks triangles: 7 pixels\n  pixel 0: ff\n  pixel 1: e8\n  pixel 4: e8\n  pixel 4: 40\n  \
+         pixel 0: ff\n  pixel 1: e8\n  pixel 4: e8\n\
+         line 15: masks triangles: 0 pixels\n\
+         line 16: masks nothing: turned away, number 7\nline 17: masks triangles: turned away, number 5\n\
+         line 18: masks rectangle: 1 pixel\n  pixel 0: ff\nline 19: word 0: turned away, number 10\n\
+         line 21: masks nothing: turned away, number 4\nline 23: masks triangles: turned away, number 3\n\
+         calls 13, log lines 5\n"
+    );
+    assert_eq!(
+        log.lines().last(),
+        Some("in.txt:23: turned away, number 3: a mark is above 3, or a coverage marked known is above 7")
+    );
+}
+
+/// More pixels than are listed at a time: triangles over all of the frame, and a small one among them.
+#[test]
+fn masks_of_many_pixels() {
+    let all = "  0 1 2".repeat(150);
+    let (lines, log) = carried(format!(
+        "frame 64 64\ncombine zero zero zero one zero zero zero one\nmode antialias on\nvertex -64 -64 1 1 1 1\n\
+         vertex 256 -64 1 1 1 1\nvertex -64 256 1 1 1 1\nvertex 0 0 1 1 1 1\nvertex 2 0 1 1 1 1\nvertex 0 2 1 1 1 1\n\
+         masks triangles{all}  3 4 5{all}\n"
+    ));
+    let large = "  pixels 0 to 4095: ff\n".repeat(150);
+    let small = "  pixel 0: ff\n  pixel 1: e8\n  pixel 64: e8\n";
+    let call = "line 10: masks triangles: 1228803 pixels\n";
+    assert_eq!(lines, format!("{call}{large}{small}{large}calls 1, log lines 0\n"));
+    assert_eq!(log, "");
+}
+
 /// Every field of the mode, the uniform and the writer can be set, and set back.
 #[test]
 fn every_field() {
@@ -191,6 +239,9 @@ fn statements() {
     wrong_statement("triangle 0 1 2", "\"triangle\" is no statement");
     wrong_statement("Word 0", "\"Word\" is no statement");
     wrong_statement("=", "\"=\" is no statement");
+    wrong_statement("masks", "masks: one of triangles, rectangle, nothing is missing");
+    wrong_statement("masks word 0", "masks: \"word\" is none of triangles, rectangle, nothing");
+    wrong_statement("masks masks nothing", "masks: \"masks\" is none of triangles, rectangle, nothing");
 }
 
 #[test]
@@ -268,6 +319,8 @@ fn draws() {
     wrong_statement("triangles 0,1,2", "the indices: \"0,1,2\" is no whole number from 0 to 4294967295");
     wrong_statement("rectangle 0 0 8", "the sides: a number is missing");
     wrong_statement("rectangle 0 0 8 8 x", "the indices: \"x\" is no whole number from 0 to 4294967295");
+    wrong_statement("masks rectangle 0 0 8", "the sides: a number is missing");
+    wrong_statement("masks triangles 0 1 -2", "the indices: \"-2\" is no whole number from 0 to 4294967295");
 }
 
 #[test]

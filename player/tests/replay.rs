@@ -1,10 +1,10 @@
-//! The recorded lists of draws and word reads (crates/replay_lists; oracle/README.md has their format), asked of this crate. They
-//! need no Rust original. The comparison with the original itself is oracle/tests/player.rs.
+//! The recorded lists of draws, emitted pixels and word reads (crates/replay_lists; oracle/README.md has their format), asked of
+//! this crate. They need no Rust original. The comparison with the original itself is oracle/tests/player.rs.
 
 use std::str::SplitWhitespace;
 use writeback::{
-    AlphaCompare, BlendClass, CombinerUniform, Draw, Encoding, Frame, Geometry, Refusal, RenderMode, Scissor, Vertices,
-    Writer, ZMode,
+    AlphaCompare, BlendClass, CombinerUniform, Draw, EmittedPixel, EmittedRun, Encoding, Frame, Geometry, Refusal,
+    RenderMode, Scissor, Vertices, Writer, ZMode,
 };
 
 /// A line's words in turn.
@@ -130,20 +130,59 @@ impl Line<'_> {
         }
     }
 
-    /// What the call answers, and what stands behind the equals sign.
-    fn draw(&mut self, frame: &mut Frame) -> [(u32, u64); 2] {
+    /// A draw's arguments, handed on with the draw that they make.
+    fn with_draw<T>(&mut self, call: impl FnOnce(&mut Self, &Draw) -> T) -> T {
         let (mode, uniform, cull) = (self.mode(), self.uniform(), self.flag());
         let [left, top, width, height] = self.words();
         let scissor = Scissor { left, top, width, height };
         let geometry = self.geometry();
         let vertices = Vertices::from_parts(self.list(Line::float), self.bytes());
         let indices = self.list(Line::word);
-        self.equals();
-        let draw = Draw { mode, uniform, cull, scissor, geometry, vertices: &vertices, indices: &indices };
-        let answers = [answered(frame.draw(&draw)), (self.word(), self.word().into())];
-        assert_eq!((frame.colors(), frame.coverages()), (&self.bytes()[..], &self.bytes()[..]));
-        assert_eq!(frame.marks(), self.bytes());
-        answers
+        call(self, &Draw { mode, uniform, cull, scissor, geometry, vertices: &vertices, indices: &indices })
+    }
+
+    /// What the call answers, and what stands behind the equals sign.
+    fn draw(&mut self, frame: &mut Frame) -> [(u32, u64); 2] {
+        self.with_draw(|line, draw| {
+            line.equals();
+            let answers = [answered(frame.draw(draw)), (line.word(), line.word().into())];
+            assert_eq!((frame.colors(), frame.coverages()), (&line.bytes()[..], &line.bytes()[..]));
+            assert_eq!(frame.marks(), line.bytes());
+            answers
+        })
+    }
+
+    /// Upper half first.
+    fn place(&mut self) -> u64 {
+        u64::from(self.word()) << 32 | u64::from(self.word())
+    }
+
+    /// The pixel and the mask as one number.
+    fn mask(&mut self, frame: &Frame) -> [(u32, u64); 2] {
+        self.with_draw(|line, draw| {
+            let k = line.place();
+            line.equals();
+            let together = |pixel: u64, mask: u64| pixel << 8 | mask;
+            let emitted =
+                frame.emitted_pixel(draw, k).map(|emitted| emitted.unwrap_or(EmittedPixel { pixel: 0, mask: 0 }));
+            let ours = emitted.map(|emitted| together(emitted.pixel as u64, emitted.mask.into()));
+            [answered(ours), (line.word(), together(line.word().into(), line.word().into()))]
+        })
+    }
+
+    /// The two counts as one number.
+    fn masks(&mut self, frame: &Frame) -> [(u32, u64); 2] {
+        self.with_draw(|line, draw| {
+            let first = line.place();
+            let (mut pixels, mut masks) = (line.list(Line::word), line.bytes());
+            line.equals();
+            let together = |listed: u64, emitted: u64| listed << 32 | emitted;
+            let run = frame.emitted_pixels_from(draw, first, &mut pixels, &mut masks);
+            let ours = run.map(|EmittedRun { listed, emitted }| together(listed, emitted));
+            let answers = [answered(ours), (line.word(), together(line.word().into(), line.word().into()))];
+            assert_eq!((pixels, masks), (line.list(Line::word), line.bytes()));
+            answers
+        })
     }
 
     fn read(&mut self, frame: &Frame) -> [(u32, u64); 2] {
@@ -165,7 +204,7 @@ fn recorded_lists() {
     let recorded = concat!(env!("CARGO_MANIFEST_DIR"), "/../crates/replay_lists/stdin");
     let recorded = std::fs::read_to_string(recorded).unwrap();
     let mut frame = Frame::new(1, 1).unwrap();
-    let mut counts = [0; 11];
+    let mut counts = [0; 21];
     for (number, line) in recorded.lines().enumerate() {
         let mut words = Line(line.split_whitespace());
         let answers = match words.0.next().unwrap() {
@@ -176,6 +215,8 @@ fn recorded_lists() {
             }
             "draw" => Some(words.draw(&mut frame)),
             "read" => Some(words.read(&frame)),
+            "mask" => Some(words.mask(&frame)),
+            "masks" => Some(words.masks(&frame)),
             other => panic!("{other}"),
         };
         if let Some([ours, expected]) = answers {
@@ -184,6 +225,6 @@ fn recorded_lists() {
         }
         assert_eq!(words.0.next(), None);
     }
-    assert_eq!(counts.iter().sum::<i32>(), 295);
-    assert!(counts.iter().all(|count| *count > 0), "{counts:?}");
+    assert_eq!(counts.iter().sum::<i32>(), 457);
+    assert!((0..=10).chain([20]).all(|number| counts[number] > 0), "{counts:?}");
 }

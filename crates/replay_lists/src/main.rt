@@ -1,12 +1,15 @@
-// Replays recorded lists of draws and word reads on the port: reads lines of standard input, each a frame or a call with what it
-// came to on the Rust original's functions, carries the calls out on a frame of its own, and counts how often the two agree.
+// Replays recorded lists of draws, emitted pixels and word reads on the port: reads lines of standard input, each a frame or a call
+// with what it came to on the Rust original's functions, carries the calls out on a frame of its own, and counts how often the two
+// agree.
 //
 //     frame width height colors coverages marks
 //     draw mode uniform cull scissor geometry vertices present indices = number pixels colors coverages marks
 //     read pixel fmt siz rgb_dither big_endian = number value
+//     mask mode uniform cull scissor geometry vertices present indices k = number pixel mask
+//     masks mode uniform cull scissor geometry vertices present indices first pixels masks = number listed emitted pixels masks
 //
-// The sample, the file stdin beside src/, is what `record lists` writes with its own seed. After each call, reads and refused draws
-// too, every byte of the three slices is held against the recorded ones, which the next call of the list works on.
+// The sample, the file stdin beside src/, is what `record lists` writes with its own seed. After each call, also one that draws
+// nothing, every byte of the three slices is held against the recorded ones, which the next call of the list works on.
 mod calls;
 mod tally;
 mod text;
@@ -92,6 +95,46 @@ fn read_line(
     tally::frame(counted, frame.agrees & (frame.next != 0), recorded)
 }
 
+// A line of an emitted pixel by its place. It leaves the frame as it was recorded before.
+fn mask_line(
+    s: &[u8],
+    at: usize,
+    end: usize,
+    t: Tally,
+    width: u32,
+    height: u32,
+    colors: &mut [u8],
+    coverages: &mut [u8],
+    marks: &mut [u8],
+) -> Tally {
+    let asked = calls::emitted_pixel(s, at, width, height, colors, coverages, marks);
+    let recorded = t.recorded;
+    let frame = same_frame(s, recorded, colors, coverages, marks);
+    let agrees = asked.agrees & (asked.next == end);
+    let counted = tally::mask(t, agrees);
+    tally::frame(counted, frame.agrees & (frame.next != 0), recorded)
+}
+
+// A line of a run of emitted pixels. It leaves the frame as it was recorded before.
+fn masks_line(
+    s: &[u8],
+    at: usize,
+    end: usize,
+    t: Tally,
+    width: u32,
+    height: u32,
+    colors: &mut [u8],
+    coverages: &mut [u8],
+    marks: &mut [u8],
+) -> Tally {
+    let asked = calls::emitted_pixels(s, at, width, height, colors, coverages, marks);
+    let recorded = t.recorded;
+    let frame = same_frame(s, recorded, colors, coverages, marks);
+    let agrees = asked.agrees & (asked.next == end);
+    let counted = tally::run(t, agrees);
+    tally::frame(counted, frame.agrees & (frame.next != 0), recorded)
+}
+
 fn draw_arguments(s: &[u8], at: usize) -> usize {
     text::behind(s, at, b"draw ", 4)
 }
@@ -100,8 +143,19 @@ fn read_arguments(s: &[u8], at: usize) -> usize {
     text::behind(s, at, b"read ", 4)
 }
 
+// Also behind `mask` of `masks`, whose other letter no argument begins with.
+fn mask_arguments(s: &[u8], at: usize) -> usize {
+    text::behind(s, at, b"mask ", 4)
+}
+
+fn masks_arguments(s: &[u8], at: usize) -> usize {
+    text::behind(s, at, b"masks", 5)
+}
+
 fn is_call(s: &[u8], at: usize) -> bool {
-    (draw_arguments(s, at) != 0) | (read_arguments(s, at) != 0)
+    let drawn = draw_arguments(s, at) != 0;
+    let asked = mask_arguments(s, at) != 0;
+    drawn | asked | (read_arguments(s, at) != 0)
 }
 
 fn call_line(
@@ -120,7 +174,15 @@ fn call_line(
         return draw_line(s, to_draw, end, t, width, height, colors, coverages, marks);
     }
     let to_read = read_arguments(s, at);
-    read_line(s, to_read, end, t, width, height, colors, coverages, marks)
+    if to_read != 0 {
+        return read_line(s, to_read, end, t, width, height, colors, coverages, marks);
+    }
+    let to_run = masks_arguments(s, at);
+    if to_run != 0 {
+        return masks_line(s, to_run, end, t, width, height, colors, coverages, marks);
+    }
+    let to_mask = mask_arguments(s, at);
+    mask_line(s, to_mask, end, t, width, height, colors, coverages, marks)
 }
 
 // The calls of a list, from `start` on, in turn.

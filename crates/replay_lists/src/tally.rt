@@ -7,6 +7,10 @@ pub struct Tally {
     pub drawn: u64, // and the same
     pub reads: u64,
     pub read: u64,
+    pub masks: u64, // emitted pixels, one by its place
+    pub masked: u64,
+    pub runs: u64, // and runs of them
+    pub ran: u64,
     pub frames: u64, // looked at after a call
     pub kept: u64, // and the same in every byte
     pub others: u64, // lines of no known form
@@ -20,6 +24,10 @@ pub fn start() -> Tally {
         drawn: 0,
         reads: 0,
         read: 0,
+        masks: 0,
+        masked: 0,
+        runs: 0,
+        ran: 0,
         frames: 0,
         kept: 0,
         others: 0,
@@ -75,6 +83,26 @@ pub fn read(t: Tally, agrees: bool) -> Tally {
     next
 }
 
+pub fn mask(t: Tally, agrees: bool) -> Tally {
+    if !agrees {
+        complain(t.line, b": another emitted pixel\n");
+    }
+    let mut next = t;
+    next.masks = one_more(t.masks);
+    next.masked = one_more_if(t.masked, agrees);
+    next
+}
+
+pub fn run(t: Tally, agrees: bool) -> Tally {
+    if !agrees {
+        complain(t.line, b": another run of emitted pixels\n");
+    }
+    let mut next = t;
+    next.runs = one_more(t.runs);
+    next.ran = one_more_if(t.ran, agrees);
+    next
+}
+
 // The slices after a call, which are recorded at a position.
 pub fn frame(t: Tally, agrees: bool, at: usize) -> Tally {
     if !agrees {
@@ -103,12 +131,15 @@ fn print_counts(name: &[u8], agreed: u64, seen: u64) {
 
 fn all_agree(t: Tally) -> bool {
     let calls = (t.draws == t.drawn) & (t.reads == t.read);
-    calls & (t.frames == t.kept) & (t.others == 0)
+    let emitted = (t.masks == t.masked) & (t.runs == t.ran);
+    calls & emitted & (t.frames == t.kept) & (t.others == 0)
 }
 
 pub fn print(t: Tally) {
     print_counts(b"draw ", t.drawn, t.draws);
     print_counts(b"read ", t.read, t.reads);
+    print_counts(b"mask ", t.masked, t.masks);
+    print_counts(b"masks ", t.ran, t.runs);
     print_counts(b"frames ", t.kept, t.frames);
     if all_agree(t) {
         io::write_all(1, b"all agree\n");

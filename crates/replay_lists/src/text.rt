@@ -23,7 +23,7 @@ pub struct Length {
     pub next: usize,
 }
 
-// How many bytes a string has, whether they are just those that a slice had, and the position behind it.
+// How many bytes a string has, or words a list, whether they are just those that a slice had, and the position behind it.
 pub struct Slice {
     pub count: usize,
     pub same: bool,
@@ -169,6 +169,25 @@ pub fn string(s: &[u8], at: usize, to: &mut [u8]) -> Slice
         let found = byte(read.value);
         same = same & (to[i] == found);
         to[i] = found;
+        next = read.next;
+        i += 1;
+    }
+    Slice { count, same, next }
+}
+
+// The same of a list of words.
+pub fn numbers(s: &[u8], at: usize, to: &mut [u32]) -> Slice
+    ensures { λ r. ⌜ r .count ≤ length (now (to .entry)) ⌝ }
+{
+    let length = list(s, at, to.len());
+    let count = length.count;
+    let mut next = length.next;
+    let mut same = count == to.len();
+    let mut i = 0;
+    while i < count {
+        let read = word(s, next);
+        same = same & (to[i] == read.value);
+        to[i] = read.value;
         next = read.next;
         i += 1;
     }

@@ -23,7 +23,7 @@ same-length-2 : tie.Need-same-length-2
 same-length-2 c = omega (arith, c .before .before .before .before .before .before .before .coverages2 .given, c .before .before .before .before .before .before .before .before .before .before .before .before .before .before .before .before .before .coverages .given)
 
 same-length-3 : tie.Need-same-length-3
-same-length-3 c = search needs
+same-length-3 c = omega (arith, c .before .before .before .before .before .marks2 .given, c .before .before .before .before .before .before .before .before .before .before .before .before .before .before .before .marks .given)
 
 returns : tie.Need-returns
 returns c = search needs

@@ -1,10 +1,11 @@
-//! Carries out a file: a line on standard output for each call, and on standard error a log line for each refusal.
+//! Carries out a file: a line on standard output for each call, with the pixels of a draw's masks behind it, and on standard
+//! error a log line for each refusal.
 
 use crate::progress::Progress;
 use crate::script::{Area, Bytes, Script, Step};
 use std::fmt::Write as _;
-use std::io::Write;
-use writeback::{Frame, Refusal};
+use std::io::{self, Write};
+use writeback::{Draw, Frame, Geometry, Refusal};
 
 /// A file's name, as messages and the log have it, and its bytes.
 pub struct Source {
@@ -97,6 +98,15 @@ fn counted(number: u64, what: &str) -> String {
     format!("{number} {what}{}", if number == 1 { "" } else { "s" })
 }
 
+/// A pixel, or all from one to another.
+fn range(first: usize, last: usize) -> String {
+    if first == last {
+        format!("pixel {first}")
+    } else {
+        format!("pixels {first} to {last}")
+    }
+}
+
 /// The pixels of each stretch of one number that is not 0, and its refusal.
 fn stretches(first: usize, numbers: &[u8]) -> Vec<(String, Refusal)> {
     let mut pixel = first;
@@ -104,12 +114,51 @@ fn stretches(first: usize, numbers: &[u8]) -> Vec<(String, Refusal)> {
     for stretch in numbers.chunk_by(|a, b| a == b) {
         let last = pixel.saturating_add(stretch.len() - 1);
         if let Some(refusal) = Refusal::from_number(stretch[0].into()) {
-            let pixels = if pixel == last { format!("pixel {pixel}") } else { format!("pixels {pixel} to {last}") };
-            found.push((pixels, refusal));
+            found.push((range(pixel, last), refusal));
         }
         pixel = last.saturating_add(1);
     }
     found
+}
+
+/// The most pixels that are listed at a time: no triangle and no rectangle has more.
+const LISTED: usize = 1024 * 1024;
+
+/// A draw that emits so many pixels, in parts that emit no more than [`LISTED`]: whole, or triangle by triangle, as they are
+/// emitted one after the other. Each part is gone through once.
+fn parts<'a>(draw: &Draw<'a>, emitted: u64) -> impl Iterator<Item = Draw<'a>> {
+    let draw = *draw;
+    let by_triangles = draw.geometry == Geometry::Triangles && emitted > LISTED as u64;
+    let triangles = if by_triangles { draw.indices } else { &[] };
+    let whole = (!by_triangles).then_some(draw);
+    whole.into_iter().chain(triangles.chunks(3).map(move |indices| Draw { indices, ..draw }))
+}
+
+/// Emitted pixels in the course of being written: a line for each stretch of neighbours with one mask.
+#[derive(Default)]
+struct Masks {
+    /// The first and the last pixel, and their mask.
+    stretch: Option<(u32, u32, u8)>,
+}
+
+impl Masks {
+    fn add(&mut self, out: &mut dyn Write, pixel: u32, mask: u8) -> io::Result<()> {
+        match &mut self.stretch {
+            Some((_, last, of)) if *of == mask && pixel.checked_sub(1) == Some(*last) => *last = pixel,
+            _ => {
+                self.end(out)?;
+                self.stretch = Some((pixel, pixel, mask));
+            }
+        }
+        Ok(())
+    }
+
+    fn end(&mut self, out: &mut dyn Write) -> io::Result<()> {
+        match self.stretch.take() {
+            Some((first, last, mask)) => writeln!(out, "  {}: {mask:02x}", range(first as usize, last as usize)),
+            None => Ok(()),
+        }
+    }
 }
 
 impl<'a> Carried<'a> {
@@ -137,6 +186,7 @@ impl<'a> Carried<'a> {
                 let answer = self.frame.draw(&draw);
                 self.answer(line, name, answer.map(|pixels| counted(pixels, "pixel")))
             }
+            Step::Masks(name, draw) => self.masks(line, name, &draw),
             Step::Word { pixel, writer } => {
                 let answer = self.frame.read_word(pixel, &writer);
                 self.answer(line, &format!("word {pixel}"), answer.map(|[a, b]| format!("{a:02x}{b:02x}")))
@@ -176,6 +226,27 @@ impl<'a> Carried<'a> {
         }
     }
 
+    /// How many pixels a draw would emit, and behind it the pixels with their masks.
+    fn masks(&mut self, line: usize, name: &str, draw: &Draw) -> Result<(), String> {
+        let run = self.frame.emitted_pixels_from(draw, 0, &mut [], &mut []);
+        self.answer(line, &format!("masks {name}"), run.map(|run| counted(run.emitted, "pixel")))?;
+        let Ok(run) = run else {
+            return Ok(());
+        };
+        let slots = LISTED.min(run.emitted as usize);
+        let (mut pixels, mut masks) = (vec![0; slots], vec![0; slots]);
+        let mut written = Masks::default();
+        for part in parts(draw, run.emitted) {
+            let part = self.frame.emitted_pixels_from(&part, 0, &mut pixels, &mut masks);
+            let listed = part.map_err(|refusal| refusal.to_string())?.listed as usize;
+            let mut emitted = pixels.iter().zip(&masks).take(listed);
+            emitted
+                .try_for_each(|(pixel, mask)| written.add(self.out.lines, *pixel, *mask))
+                .map_err(|error| format!("standard output: {error}"))?;
+        }
+        written.end(self.out.lines).map_err(|error| format!("standard output: {error}"))
+    }
+
     /// A run's words, with dashes for those that are turned away.
     fn run(&mut self, line: usize, first: usize, words: &[[u8; 2]], numbers: &[u8]) -> Result<(), String> {
         let mut text = format!("words {first} {}:", words.len());
@@ -201,5 +272,18 @@ mod tests {
         assert_eq!(of(5, &[0, 10, 10, 0, 10, 8]), ["pixels 6 to 7 10", "pixel 9 10", "pixel 10 8"]);
         assert_eq!(of(0, &[]), [""; 0]);
         assert_eq!(of(usize::MAX, &[8, 8]), [format!("pixel {} 8", usize::MAX)]);
+    }
+
+    #[test]
+    fn stretches_of_masks() {
+        let (mut out, mut masks) = (Vec::new(), Masks::default());
+        for (pixel, mask) in [(7, 0xff), (8, 0xff), (9, 0x80), (10, 0xff), (11, 0xff), (11, 0xff), (0, 0xff), (1, 0xff)]
+        {
+            masks.add(&mut out, pixel, mask).unwrap();
+        }
+        masks.end(&mut out).unwrap();
+        masks.end(&mut out).unwrap();
+        let lines = "  pixels 7 to 8: ff\n  pixel 9: 80\n  pixels 10 to 11: ff\n  pixel 11: ff\n  pixels 0 to 1: ff\n";
+        assert_eq!(String::from_utf8(out).unwrap(), lines);
     }
 }

@@ -20,10 +20,10 @@ use writeback::Frame;
 const HELP: &str = "\
 writeback FILE PICTURE
 
-Carries out the draws and word reads of FILE and writes the frame that they leave as a PNG to PICTURE.
+Carries out the draws, masks and word reads of FILE and writes the frame that they leave as a PNG to PICTURE.
 
-FILE is text: docs/FORMAT.md describes it, player/samples/album.txt is one. Standard output has a line for each call, and
-standard error a log line for each refusal: FILE:LINE, the number and the reason.
+FILE is text: docs/FORMAT.md describes it, player/samples/album.txt is one. Standard output has a line for each call, behind
+that of a draw's masks the pixels, and standard error a log line for each refusal: FILE:LINE, the number and the reason.
 
 In the picture a pixel is a block of 4 by 4. A block of one colour is a pixel whose colour is known; a block of two, a
 diagonal line in magenta and black, is one whose colour is not known.

@@ -11,6 +11,9 @@ const SIDES: RangeInclusive<u64> = 1..=1024;
 /// The most words that one statement reads: as many as the largest frame has pixels.
 const LONGEST_RUN: u64 = 1024 * 1024;
 
+/// The statements that draw, and that may stand behind `masks`.
+const DRAWS: [(&str, &str); 3] = [("triangles", "triangles"), ("rectangle", "rectangle"), ("nothing", "nothing")];
+
 /// Pixels of the frame, all inside it.
 #[derive(Clone, Copy)]
 pub struct Area {
@@ -35,6 +38,8 @@ pub enum Step<'a> {
     Write(Area, Bytes),
     /// A draw, with its keyword.
     Draw(&'static str, Draw<'a>),
+    /// The pixels that a draw would emit.
+    Masks(&'static str, Draw<'a>),
     Word {
         pixel: usize,
         writer: Writer,
@@ -148,17 +153,18 @@ impl Script {
     }
 
     fn step(&mut self, keyword: &str, words: &mut Words) -> Result<Step<'_>, String> {
+        if let Some((name, _)) = DRAWS.iter().find(|(name, _)| *name == keyword) {
+            return Ok(Step::Draw(name, self.draw(name, words)?));
+        }
         match keyword {
             "color" => self.write(words, |words| Ok(Bytes::Color(words.u8s("the color")?))),
             "coverage" => self.write(words, |words| Ok(Bytes::Coverage(words.u8("the coverage")?))),
             "unknown" => self.write(words, |_| Ok(Bytes::Unknown)),
             "mark" => self.write(words, |words| Ok(Bytes::Mark(words.u8("the mark")?))),
-            "triangles" => self.draw("triangles", Geometry::Triangles, words),
-            "rectangle" => {
-                let [left, top, right, bottom] = words.floats("the sides")?;
-                self.draw("rectangle", Geometry::Rectangle { left, top, right, bottom }, words)
+            "masks" => {
+                let name = words.one_of("masks", &DRAWS)?;
+                Ok(Step::Masks(name, self.draw(name, words)?))
             }
-            "nothing" => self.draw("nothing", Geometry::Nothing, words),
             "word" => {
                 let pixel = pixel(words, self.size()?)?;
                 words.end()?;
@@ -194,11 +200,19 @@ impl Script {
         Ok(Step::Write(area, bytes))
     }
 
-    /// The words that are left are the indices.
-    fn draw(&mut self, name: &'static str, geometry: Geometry, words: &mut Words) -> Result<Step<'_>, String> {
+    /// The draw of one of [`DRAWS`]. The words that are left, behind a rectangle's sides, are the indices.
+    fn draw(&mut self, name: &str, words: &mut Words) -> Result<Draw<'_>, String> {
+        let geometry = match name {
+            "triangles" => Geometry::Triangles,
+            "rectangle" => {
+                let [left, top, right, bottom] = words.floats("the sides")?;
+                Geometry::Rectangle { left, top, right, bottom }
+            }
+            _ => Geometry::Nothing,
+        };
         self.indices = words.all("the indices", index)?;
         let Script { mode, uniform, cull, scissor, vertices, indices, .. } = self;
         let (mode, uniform, cull, scissor) = (*mode, *uniform, *cull, *scissor);
-        Ok(Step::Draw(name, Draw { mode, uniform, cull, scissor, geometry, vertices, indices }))
+        Ok(Draw { mode, uniform, cull, scissor, geometry, vertices, indices })
     }
 }

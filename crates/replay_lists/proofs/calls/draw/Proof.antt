@@ -5,47 +5,23 @@ use lib.Seq.{length-take-le}
 use Rattle.replay_lists.proofs.calls.draw.Statement.{statement}
 use Rattle.replay_lists.proofs.calls.draw.Tie as tie
 
-draw-words-requires : tie.Need-draw-words-requires
-draw-words-requires c κs = search needs
+slice-aggregate-arguments : tie.Need-slice-aggregate-arguments
+slice-aggregate-arguments c = search needs
 
-slice-aggregate-words : tie.Need-slice-aggregate-words
-slice-aggregate-words c = search needs
+slice-aggregate-arguments-2 : tie.Need-slice-aggregate-arguments-2
+slice-aggregate-arguments-2 c = search needs
 
-slice-aggregate-words-2 : tie.Need-slice-aggregate-words-2
-slice-aggregate-words-2 c = search needs
+slice-aggregate-arguments-3 : tie.Need-slice-aggregate-arguments-3
+slice-aggregate-arguments-3 c = search needs
 
-words-requires : tie.Need-words-requires
-words-requires c κs = search needs
-
-slice-aggregate-string : tie.Need-slice-aggregate-string
-slice-aggregate-string c = search needs
-
-string-requires : tie.Need-string-requires
-string-requires c κs = search needs
-
-slice-aggregate-words-3 : tie.Need-slice-aggregate-words-3
-slice-aggregate-words-3 c = search needs
-
-slice-aggregate-words-4 : tie.Need-slice-aggregate-words-4
-slice-aggregate-words-4 c = search needs
-
-words-requires-2 : tie.Need-words-requires-2
-words-requires-2 c κs = search needs
+arguments-requires : tie.Need-arguments-requires
+arguments-requires c κs = search needs
 
 malformed-requires : tie.Need-malformed-requires
 malformed-requires c κs = search needs
 
 returns : tie.Need-returns
 returns c = search needs
-
-draw-within-requires : tie.Need-draw-within-requires
-draw-within-requires c κs = search needs
-
-malformed-requires-2 : tie.Need-malformed-requires-2
-malformed-requires-2 c κs = search needs
-
-returns-2 : tie.Need-returns-2
-returns-2 c = search needs
 
 array-share-prefix-vertices : tie.Need-array-share-prefix-vertices
 array-share-prefix-vertices c = search needs
@@ -80,27 +56,19 @@ same-length-2 c = search needs
 same-length-3 : tie.Need-same-length-3
 same-length-3 c = search needs
 
-returns-3 : tie.Need-returns-3
-returns-3 c = search needs
+returns-2 : tie.Need-returns-2
+returns-2 c = search needs
 
 pub draw-spec : {M : Type 1} → statement M
 draw-spec =
     tie.close
     (tie.spec
-    draw-words-requires
-    slice-aggregate-words
-    slice-aggregate-words-2
-    words-requires
-    slice-aggregate-string
-    string-requires
-    slice-aggregate-words-3
-    slice-aggregate-words-4
-    words-requires-2
+    slice-aggregate-arguments
+    slice-aggregate-arguments-2
+    slice-aggregate-arguments-3
+    arguments-requires
     malformed-requires
     returns
-    draw-within-requires
-    malformed-requires-2
-    returns-2
     array-share-prefix-vertices
     slice-aggregate-ask-draw
     array-share-prefix-present
@@ -112,4 +80,4 @@ draw-spec =
     same-length
     same-length-2
     same-length-3
-    returns-3)
+    returns-2)
