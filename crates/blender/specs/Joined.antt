@@ -1,6 +1,5 @@
 -- Inner vocabulary. `color_known` and `blend` of a pixel that is handed over once. Definitions only. Source: docs/RULES.md, F1 and F3.
 use mathlib.Core.Bool.{Bool, true, false, cond}
-use Rattle.num_bits.specs.Ones.{onesOf}
 use Rattle.num_float.specs.Color.{f0}
 use Rattle.state.specs.declared.RenderMode.{RenderMode}
 use Rattle.state.specs.declared.Rgba.{Rgba}
@@ -26,5 +25,5 @@ orZeros (memory.Known color) = color
 -- a fallback where `color_known` says no, else the bytes of `blend`
 unfoldable pub joined : RenderMode → Combiner → Source → Coverage → Memory → Joined
 joined mode k s coverage m =
-    let bytes = blendOf mode k (s .color) (orZeros m) (s .«shade_alpha») (onesOf (s .mask)) (orZero coverage) in
-    cond (colorKnown mode (s .color .a) (onesOf (s .mask)) coverage (isKnown m)) (Stored (bytes .r) (bytes .g) (bytes .b) (bytes .a)) Fallback
+    let bytes = blendOf mode k (s .color) (orZeros m) (s .«shade_alpha») (s .count) (orZero coverage) in
+    cond (colorKnown mode (s .color .a) (s .count) coverage (isKnown m)) (Stored (bytes .r) (bytes .g) (bytes .b) (bytes .a)) Fallback

@@ -3,8 +3,7 @@ use combiner::Combiner;
 use state::RenderMode;
 use state::Rgba;
 ghost use mathlib.Core.Path.{_≡_};
-ghost use Prim.Native.Nat.{_≤_, _<_};
-ghost use Rattle.num_bits.specs.Ones.{onesOf};
+ghost use Prim.Native.Nat.{_≤_};
 ghost use Rattle.blender.specs.Mux.{muxOf};
 ghost use Rattle.blender.specs.Coverage.{overflows, blends, clampOf, destinationOf};
 ghost use Rattle.blender.specs.Known.{reject, alone, missing, anyCoverage, colorKnown};
@@ -20,11 +19,11 @@ pub enum Coverage {
     Known(u8),
 }
 
-// An emitted pixel: its combined colour, its shade alpha and the mask of its samples.
+// An emitted pixel: its combined colour, its shade alpha and its number of samples.
 pub struct Source {
     pub color: Rgba,
     pub shade_alpha: f32,
-    pub mask: u8,
+    pub count: u8,
 }
 
 // A pixel's colour in memory, or that it is not known.
@@ -110,11 +109,10 @@ fn clamp(blend: bool, count: u8, memory: u8) -> u8
 }
 
 // The coverage that memory keeps after the pixel.
-pub fn destination(mode: RenderMode, mask: u8, memory: u8) -> u8
-    requires { ⌜ (0 < mask) × (memory ≤ 7) ⌝ }
-    ensures { λ r. ⌜ (r ≡ destinationOf mode (onesOf mask) memory) × (r ≤ 7) ⌝ }
+pub fn destination(mode: RenderMode, count: u8, memory: u8) -> u8
+    requires { ⌜ (1 ≤ count) × (count ≤ 8) × (memory ≤ 7) ⌝ }
+    ensures { λ r. ⌜ (r ≡ destinationOf mode count memory) × (r ≤ 7) ⌝ }
 {
-    let count = num_bits::ones(mask);
     let blend = blending(mode, count, Coverage::Known(memory));
     let sum = count + memory;
     let dst = mode.cvg_dst;
@@ -198,17 +196,16 @@ fn any_coverage(mode: RenderMode) -> bool
 pub fn color_known(
     mode: RenderMode,
     alpha: f32,
-    mask: u8,
+    count: u8,
     coverage: Coverage,
     memory_rgb: bool,
 ) -> bool
-    ensures { λ r. ⌜ r ≡ colorKnown mode alpha (onesOf mask) coverage «memory_rgb» ⌝ }
+    ensures { λ r. ⌜ r ≡ colorKnown mode alpha count coverage «memory_rgb» ⌝ }
 {
     let mux = decode_mux(mode.blender_mux);
     if lacking(mux.p, memory_rgb) {
         return false;
     }
-    let count = num_bits::ones(mask);
     if stands_alone(mode, alpha, count, coverage) {
         return true;
     }
@@ -311,24 +308,23 @@ fn in_bytes(stands: bool, forced: bool, p: Rgba, a: f32, m: Rgba, b: f32, alpha:
     }
 }
 
-// What is stored of a pixel of colour rgba, with the mask's samples, over the memory's colour and coverage.
+// What is stored of a pixel of colour rgba, with count samples, over the memory's colour and coverage.
 pub fn blend(
     mode: RenderMode,
     combiner: Combiner,
     rgba: Rgba,
     memory: Rgba,
     shade_alpha: f32,
-    mask: u8,
+    count: u8,
     coverage: u8,
 ) -> Bytes
-    ensures { λ r. ⌜ r ≡ blendOf mode combiner rgba memory «shade_alpha» (onesOf mask) coverage ⌝ }
+    ensures { λ r. ⌜ r ≡ blendOf mode combiner rgba memory «shade_alpha» count coverage ⌝ }
 {
     let mux = decode_mux(mode.blender_mux);
     let p = input(mux.p, combiner, rgba, memory);
     let m = input(mux.m, combiner, rgba, memory);
     let a = factor_a(mux.a, rgba.a, combiner.fog.a, shade_alpha);
     let b = factor_b(mux.b, a, coverage);
-    let count = num_bits::ones(mask);
     let stands = stands_alone(mode, rgba.a, count, Coverage::Known(coverage));
     in_bytes(stands, mode.force_blend, p, a, m, b, rgba.a)
 }
@@ -377,7 +373,7 @@ pub fn blend_known(
 {
     let color = source.color;
     let known = is_known(memory);
-    if !color_known(mode, color.a, source.mask, coverage, known) {
+    if !color_known(mode, color.a, source.count, coverage, known) {
         return Joined::Fallback;
     }
     let under = color_or_zeros(memory);
@@ -388,7 +384,7 @@ pub fn blend_known(
         color,
         under,
         source.shade_alpha,
-        source.mask,
+        source.count,
         samples,
     );
     Joined::Stored(bytes.r, bytes.g, bytes.b, bytes.a)

@@ -4,6 +4,7 @@ use Prim.Native.Nat.{ℕ, _<_}
 use mathlib.Core.Path.{_≡_}
 use mathlib.Core.List.{List}
 use lib.ListN.{length, length-set}
+use Rattle.num_bits.proofs.Masks.{ones-range}
 use Rattle.state.specs.declared.RenderMode.{RenderMode}
 use Rattle.combiner.specs.declared.Combiner.{Combiner}
 use Rattle.frame_pixel.specs.Rules.{pixelStep}
@@ -26,8 +27,9 @@ module _ (mode : RenderMode) (k : Combiner) where
   fit-step {n} {f} e h a b =
       let x = pixelAt f (e .pixel) in
       let y = pixelStep mode k (sourceOf e) x in
+      let n = ones-range (e .mask) a b in
       put-fit h (e .pixel) y
-      (mark-good (y .mark) (y .coverage) (mark-after mode k (sourceOf e) x) (coverage-after mode k (sourceOf e) x a b (h .sound (e .pixel))))
+      (mark-good (y .mark) (y .coverage) (mark-after mode k (sourceOf e) x) (coverage-after mode k (sourceOf e) x (n .0) (n .1) (h .sound (e .pixel))))
 
   pub fit-list : {m n : ℕ} {f : Frame} {es : List Emit} → Fit n f → Placed m es → Fit n (drawList mode k f es)
   fit-list h Placed.none = h

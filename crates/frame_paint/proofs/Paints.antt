@@ -26,6 +26,7 @@ use Rattle.frame_pixel.specs.Coloring.{colorsOf, ownColors}
 use Rattle.frame_pixel.specs.Full.{FullOf}
 use Rattle.num_float.proofs.Tests.{never, both-left, both-right}
 use Rattle.frame_pixel.proofs.Colorings.{opaque-step, unshaded-step}
+use Rattle.num_bits.specs.Ones.{onesOf}
 use Rattle.raster_pixel.specs.Emitted.{Emit}
 use Rattle.frame.specs.Frame.{Frame, pixelAt, putPixel}
 use Rattle.frame_paint.specs.declared.prepare.Paint.{Paint}
@@ -88,26 +89,26 @@ own-bytes paint i color o =
 -- what is stored of a pixel of the paint's own colour does not turn on it, where what full pixels need is enough
 module _ (paint : Paint) (e : Prepared paint) (even : paint .even ≡ true) where
   any-step :
-      (mask : ℕ) (s t : Float) (x : Pixel)
-      → pixelStep (paint .mode) (paint .combiner) (record { color = paint .color; «shade_alpha» = s; mask = mask }) x
-      ≡ pixelStep (paint .mode) (paint .combiner) (record { color = paint .color; «shade_alpha» = t; mask = mask }) x
-  any-step mask s t x = go (paint .full .layered) refl (steadyOf (paint .mode)) refl (paint .full .sure) refl (sym (e .even) ∙ even)
+      (n : ℕ) (s t : Float) (x : Pixel)
+      → pixelStep (paint .mode) (paint .combiner) (record { color = paint .color; «shade_alpha» = s; count = n }) x
+      ≡ pixelStep (paint .mode) (paint .combiner) (record { color = paint .color; «shade_alpha» = t; count = n }) x
+  any-step n s t x = go (paint .full .layered) refl (steadyOf (paint .mode)) refl (paint .full .sure) refl (sym (e .even) ∙ even)
     where
       go :
           (l : Bool) → paint .full .layered ≡ l → (d : Bool) → steadyOf (paint .mode) ≡ d → (o : Bool) → paint .full .sure ≡ o → (l || (d || o)) ≡ true
-          → pixelStep (paint .mode) (paint .combiner) (record { color = paint .color; «shade_alpha» = s; mask = mask }) x
-          ≡ pixelStep (paint .mode) (paint .combiner) (record { color = paint .color; «shade_alpha» = t; mask = mask }) x
+          → pixelStep (paint .mode) (paint .combiner) (record { color = paint .color; «shade_alpha» = s; count = n }) x
+          ≡ pixelStep (paint .mode) (paint .combiner) (record { color = paint .color; «shade_alpha» = t; count = n }) x
       go true el d ed o eo h =
-          unshaded-step (paint .mode) (paint .combiner) (paint .color) mask x s t (layered (paint .mode) (paint .color .a) (sym (e .full .layered) ∙ el) .shade)
-      go false el true ed o eo h = unshaded-step (paint .mode) (paint .combiner) (paint .color) mask x s t (steady (paint .mode) ed .shade)
-      go false el false ed true eo h = opaque-step (paint .mode) (paint .combiner) (paint .color) mask x s t (opaque (paint .mode) (paint .color .a) (sym (e .full .sure) ∙ eo))
+          unshaded-step (paint .mode) (paint .combiner) (paint .color) n x s t (layered (paint .mode) (paint .color .a) (sym (e .full .layered) ∙ el) .shade)
+      go false el true ed o eo h = unshaded-step (paint .mode) (paint .combiner) (paint .color) n x s t (steady (paint .mode) ed .shade)
+      go false el false ed true eo h = opaque-step (paint .mode) (paint .combiner) (paint .color) n x s t (opaque (paint .mode) (paint .color .a) (sym (e .full .sure) ∙ eo))
       go false el false ed false eo h = never h
 
   pub any-shade :
       (f : Frame) (pixel mask : ℕ) (s t : Float)
       → stepFrame (paint .mode) (paint .combiner) f (emitOf pixel mask (paint .color) s) ≡ stepFrame (paint .mode) (paint .combiner) f (emitOf pixel mask (paint .color) t)
   unfolding stepFrame
-  any-shade f pixel mask s t = ap (putPixel f pixel) (any-step mask s t (pixelAt f pixel))
+  any-shade f pixel mask s t = ap (putPixel f pixel) (any-step (onesOf mask) s t (pixelAt f pixel))
 
 -- what a paint draws is drawn with the mode and the combiner that it was made of
 pub by-paint :

@@ -9,6 +9,7 @@ use lib.Ieee.{Float}
 use Rattle.state.specs.declared.RenderMode.{RenderMode}
 use Rattle.state.specs.declared.Rgba.{Rgba}
 use Rattle.combiner.specs.declared.Combiner.{Combiner}
+use Rattle.num_bits.specs.Ones.{onesOf}
 use Rattle.frame_pixel.specs.declared.Pixel.{Pixel}
 use Rattle.blender.specs.declared.Coverage.the-variants.{Known, Unknown}
 use Rattle.blender.specs.declared.Source.{Source}
@@ -27,6 +28,15 @@ use Rattle.frame_paint.specs.Pixel.{Drew, emitOf}
 use Rattle.frame_paint.specs.declared.rows.Hue.{Hue}
 use Rattle.frame_paint.specs.Row.{pixelOf}
 use Rattle.frame_paint.proofs.Fits.{fit-step}
+
+module _ (mode : RenderMode) (k : Combiner) (f : Frame) (pixel mask : ℕ) (color : Rgba) (shade : Float) where
+  pub stored :
+      {n : ℕ} {x : Pixel} → n ≡ onesOf mask
+      → x ≡ pixelStep mode k (record { color = color; «shade_alpha» = shade; count = n }) (pixelAt f pixel)
+      → putPixel f pixel x ≡ stepFrame mode k f (emitOf pixel mask color shade)
+  unfolding stepFrame
+  stored hn hx =
+      ap (putPixel f pixel) (hx ∙ (λ i. pixelStep mode k (record { color = color; «shade_alpha» = shade; count = hn i }) (pixelAt f pixel)))
 
 -- ---- a pixel read and stored as far as it is known
 
@@ -86,18 +96,18 @@ module _ (f : Frame) (p : ℕ) (x y : Pixel) (a : AlikePixel x y) (room : 3 * p 
 module _ (mode : RenderMode) (k : Combiner) (f : Frame) (pixel mask : ℕ) (color : Rgba) (shade : Float) where
   -- a step on what is known, stored as far as it then is known, is a step of the frame
   pub stored-known :
-      {b x : Pixel} {g : Frame} → b ≡ knownPixel (pixelAt f pixel)
-      → x ≡ pixelStep mode k (record { color = color; «shade_alpha» = shade; mask = mask }) b
+      {n : ℕ} {b x : Pixel} {g : Frame} → n ≡ onesOf mask → b ≡ knownPixel (pixelAt f pixel)
+      → x ≡ pixelStep mode k (record { color = color; «shade_alpha» = shade; count = n }) b
       → g ≡ putKnown f pixel x → 3 * pixel + 2 < length (f .colors) → pixel < length (f .coverages)
       → g ≡ stepFrame mode k f (emitOf pixel mask color shade)
-  unfolding stepFrame
-  stored-known {b} {x} hb hx hg room place =
-      let s : Source = record { color = color; «shade_alpha» = shade; mask = mask } in
+  stored-known {n} {b} {x} hn hb hx hg room place =
+      let s : Source = record { color = color; «shade_alpha» = shade; count = n } in
       let c = pixelAt f pixel in
       let y = pixelStep mode k s c in
       let a : AlikePixel x y = subst (λ (z : Pixel). AlikePixel z y) (sym (hx ∙ ap (pixelStep mode k s) hb)) (pixel-alike mode k s (knownPixel c) c (known-alike c)) in
       hg
       ∙ (λ i. frameOf (known-colors f pixel x y a room place (kept-colors mode k s c) i) (known-coverages f pixel x y a room place (kept-coverage mode k s c) i) (set (f .marks) pixel (a .mark i)))
+      ∙ stored mode k f pixel mask color shade hn refl
 
 -- ---- a pixel with these samples: nothing where it is not shown, and else one step
 module _ (mode : RenderMode) (k : Combiner) (mask : ℕ) (hue : Hue) (w y x : ℕ) {n : ℕ} {f : Frame} (fit : Fit n f) where

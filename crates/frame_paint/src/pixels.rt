@@ -35,10 +35,11 @@ pub fn draw_pixel(
     ensures { λ r. ⌜ after colors coverages marks ≡ stepFrame mode combiner (before colors coverages marks) (emitOf pixel mask color «shade_alpha») ⌝ }
 {
     let before = frame::known_pixel(colors, coverages, marks, pixel);
+    let count = num_bits::ones(mask);
     let source = Source {
         color,
         shade_alpha,
-        mask,
+        count,
     };
     let coloring = coloring_of(mode, combiner, plain, own, color);
     let after = frame_pixel::step(mode, combiner, source, coloring, before);

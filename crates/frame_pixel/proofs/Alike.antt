@@ -4,7 +4,6 @@ use Prim.Native.Nat.{ℕ, _≤_}
 use mathlib.Core.Path.{_≡_, refl, sym, ap, _∙_}
 use mathlib.Core.Bool.{Bool, true, false, cond, not, _&&_}
 use native.Mathlib.Omega.{arith}
-use Rattle.num_bits.specs.Ones.{onesOf}
 use Rattle.state.specs.declared.RenderMode.{RenderMode}
 use Rattle.combiner.specs.declared.Combiner.{Combiner}
 use Rattle.blender.specs.declared.Coverage.{Coverage}
@@ -59,7 +58,7 @@ module _ {x y : Pixel} (h : AlikePixel x y) where
 
   coverage-after-same : (mode : RenderMode) (s : Source) → coverageAfter mode s x ≡ coverageAfter mode s y
   unfolding coverageAfter
-  coverage-after-same mode s = ap (ruleF5 mode (onesOf (s .mask))) same-coverage
+  coverage-after-same mode s = ap (ruleF5 mode (s .count)) same-coverage
 
 module _ (mode : RenderMode) (k : Combiner) (s : Source) (x : Pixel) where
   colors-stay : knownAfter mode s x ≡ false → colorsAfter mode k s x ≡ ruleF4 x

@@ -1,14 +1,12 @@
 -- What is known is certain, and how much that is certain is left unknown: of coverages and of colours in doubt exactly, and of pixels with all eight samples that are
 -- not forced. Of other colours to which F1 says no it is not said; the comparison with the Rust counts them. Assumes nothing.
-use Prim.Native.Nat.{ℕ, _+_, _≤_, _<_}
+use Prim.Native.Nat.{ℕ, _+_, _≤_}
 use mathlib.Core.Path.{_≡_, refl, sym, ap, subst, _∙_}
 use mathlib.Core.Bool.{Bool, true, false, cond, not, _&&_}
 use native.Mathlib.Omega.{arith}
 use borrow.Author.Tests.{eqb-true, not-true, leb-false, le-leb, lt-leb}
 use lib.Dec.{eqb}
 use lib.Ieee.{lt, mul, div, ofInt}
-use Rattle.num_bits.specs.Ones.{onesOf}
-use Rattle.num_bits.proofs.Masks.{some-ones, ones-range}
 use Rattle.num_float.specs.Whole.{byteOf}
 use Rattle.state.specs.declared.RenderMode.{RenderMode}
 use Rattle.combiner.specs.declared.Combiner.{Combiner}
@@ -83,26 +81,26 @@ number e = ap value e
 
 module _ (mode : RenderMode) (s : Source) (x : Pixel) where
   -- over what x may really be, `destination` answers
-  coverage-of : (y : Pixel) → Completes y x → coverageAfter mode s y ≡ Known (destinationOf mode (onesOf (s .mask)) (y .coverage))
+  coverage-of : (y : Pixel) → Completes y x → coverageAfter mode s y ≡ Known (destinationOf mode (s .count) (y .coverage))
   unfolding coverageAfter ruleF5
-  coverage-of y q = ap (ruleF5 mode (onesOf (s .mask))) (all-covered y (q .all))
+  coverage-of y q = ap (ruleF5 mode (s .count)) (all-covered y (q .all))
 
-  was-unknown : (c : Coverage) → ruleF5 mode (onesOf (s .mask)) c ≡ Unknown → c ≡ Unknown
+  was-unknown : (c : Coverage) → ruleF5 mode (s .count) c ≡ Unknown → c ≡ Unknown
   unfolding ruleF5
   was-unknown Unknown e = refl
   was-unknown (Known c) e = never (ap unknown e)
 
-  fresh-left : (c : Coverage) → c ≡ Unknown → ruleF5 mode (onesOf (s .mask)) c ≡ Unknown → freshCoverage mode (onesOf (s .mask)) ≡ Unknown
+  fresh-left : (c : Coverage) → c ≡ Unknown → ruleF5 mode (s .count) c ≡ Unknown → freshCoverage mode (s .count) ≡ Unknown
   unfolding ruleF5
-  fresh-left c u e = sym (ap (ruleF5 mode (onesOf (s .mask))) u) ∙ e
+  fresh-left c u e = sym (ap (ruleF5 mode (s .count)) u) ∙ e
 
   -- where it is given up it is certain
   pub given-up-certain :
-      coverageAt x ≡ Unknown → coverageGivenUp mode (onesOf (s .mask)) ≡ true
-      → (coverageAfter mode s x ≡ Unknown) × CertainCoverage mode s x (destinationOf mode (onesOf (s .mask)) 0)
+      coverageAt x ≡ Unknown → coverageGivenUp mode (s .count) ≡ true
+      → (coverageAfter mode s x ≡ Unknown) × CertainCoverage mode s x (destinationOf mode (s .count) 0)
   unfolding coverageGivenUp coverageAfter ruleF5
   given-up-certain u t =
-      let n = onesOf (s .mask) in
+      let n = s .count in
       let one = settled mode n in
       let left = unknown (freshCoverage mode n) in (
         ap (ruleF5 mode n) u ∙ is-unknown (freshCoverage mode n) (both-right one left t),
@@ -111,12 +109,12 @@ module _ (mode : RenderMode) (s : Source) (x : Pixel) where
 
   -- and a certain coverage that F5 leaves unknown is given up
   pub certain-given-up :
-      0 < s .mask → s .mask < 256 → coverageAfter mode s x ≡ Unknown → (v : ℕ) → CertainCoverage mode s x v → coverageGivenUp mode (onesOf (s .mask)) ≡ true
+      1 ≤ s .count → s .count ≤ 8 → coverageAfter mode s x ≡ Unknown → (v : ℕ) → CertainCoverage mode s x v → coverageGivenUp mode (s .count) ≡ true
   unfolding coverageGivenUp coverageAfter
-  certain-given-up p q left v certain = λ i. same-settled mode n (ones-range (s .mask) p q .0) (ones-range (s .mask) p q .1) (at 7 (omega arith) ∙ sym (at 0 (omega arith))) i && unknown (fresh-left (coverageAt x) u left i)
+  certain-given-up p q left v certain = λ i. same-settled mode n p q (at 7 (omega arith) ∙ sym (at 0 (omega arith))) i && unknown (fresh-left (coverageAt x) u left i)
     where
       n : ℕ
-      n = onesOf (s .mask)
+      n = s .count
 
       u : coverageAt x ≡ Unknown
       u = was-unknown (coverageAt x) left
@@ -137,14 +135,14 @@ module _ (mode : RenderMode) (k : Combiner) (s : Source) (x : Pixel)
 
   -- over whatever x may really be, the colours are F3's over any coverage that overflows as its own does
   colors-really :
-      (y : Pixel) → Completes y x → (c : ℕ) → overflow (onesOf (s .mask)) (y .coverage) ≡ overflow (onesOf (s .mask)) c → colorsAfter mode k s y ≡ colorsOver mode k s x c
+      (y : Pixel) → Completes y x → (c : ℕ) → overflow (s .count) (y .coverage) ≡ overflow (s .count) c → colorsAfter mode k s y ≡ colorsOver mode k s x c
   unfolding ruleF1 ruleF3
   colors-really y q c e =
       all-colors mode k s y (q .all)
       ∙ ap (λ (v : Bytes). record { red = v .r; green = v .g; blue = v .b })
-      (blend-same mode k (s .color) (s .«shade_alpha») (onesOf (s .mask)) (coverageAt x) (colorMarked (x .mark))
+      (blend-same mode k (s .color) (s .«shade_alpha») (s .count) (coverageAt x) (colorMarked (x .mark))
       (memoryOf (colorMarked (y .mark)) y) (memoryOf (colorMarked (x .mark)) x) (y .coverage) c said (memory-too y x (q .knows))
-      (less (y .coverage)) (less c) (alone-same mode (s .color .a) (onesOf (s .mask)) (y .coverage) c e))
+      (less (y .coverage)) (less c) (alone-same mode (s .color .a) (s .count) (y .coverage) c e))
     where
       less : (c : ℕ) → Less (coverageAt x) (Known c)
       less c = subst (λ (d : Coverage). Less d (Known c)) (sym no-coverage) Less.none
@@ -158,36 +156,33 @@ module _ (mode : RenderMode) (k : Combiner) (s : Source) (x : Pixel)
           sym (colors-really (withCoverage x no-coverage c) (completes x no-coverage c l) c refl)
           ∙ certain (withCoverage x no-coverage c) (completes x no-coverage c l)
 
-  pub certain-doubt : 0 < s .mask → (v : Colors) → SameAtEnds mode k s x v → CertainColors mode k s x v
-  certain-doubt p v same y q = go (overflow (onesOf (s .mask)) (y .coverage)) refl
+  pub certain-doubt : 1 ≤ s .count → (v : Colors) → SameAtEnds mode k s x v → CertainColors mode k s x v
+  certain-doubt p v same y q = go (overflow (s .count) (y .coverage)) refl
     where
       n : ℕ
-      n = onesOf (s .mask)
-
-      some : 1 ≤ n
-      some = some-ones (s .mask) p
+      n = s .count
 
       go : (b : Bool) → overflow n (y .coverage) ≡ b → colorsAfter mode k s y ≡ v
-      go true e = colors-really y q 7 (e ∙ sym (le-leb 8 (n + 7) (omega (arith, some)))) ∙ same .1
+      go true e = colors-really y q 7 (e ∙ sym (le-leb 8 (n + 7) (omega arith))) ∙ same .1
       go false e =
           let l = leb-false 8 (n + y .coverage) e in
           colors-really y q 0 (e ∙ sym (lt-leb 8 (n + 0) (omega arith))) ∙ same .0
 
 -- ---- a pixel with all eight samples that is not forced: it is never blended, so that it is P's colour, certain wherever P is known
 pub full-certain :
-    (mode : RenderMode) (k : Combiner) (s : Source) (x : Pixel) → mode .«force_blend» ≡ false → onesOf (s .mask) ≡ 8
+    (mode : RenderMode) (k : Combiner) (s : Source) (x : Pixel) → mode .«force_blend» ≡ false → s .count ≡ 8
     → missing (muxOf (mode .«blender_mux») .p) (colorMarked (x .mark)) ≡ false → CertainColors mode k s x (colorsOver mode k s x 7)
 unfolding ruleF3
 full-certain mode k s x forced eight there y q =
     all-colors mode k s y (q .all)
     ∙ ap (λ (v : Bytes). record { red = v .r; green = v .g; blue = v .b })
-    (alone-blend-same mode k (s .color) (s .«shade_alpha») (onesOf (s .mask)) (colorMarked (x .mark))
+    (alone-blend-same mode k (s .color) (s .«shade_alpha») (s .count) (colorMarked (x .mark))
     (memoryOf (colorMarked (y .mark)) y) (memoryOf (colorMarked (x .mark)) x) (y .coverage) 7 there (memory-too y x (q .knows))
-    (full-alone mode (s .color .a) (onesOf (s .mask)) (y .coverage) forced eight) (full-alone mode (s .color .a) (onesOf (s .mask)) 7 forced eight))
+    (full-alone mode (s .color .a) (s .count) (y .coverage) forced eight) (full-alone mode (s .color .a) (s .count) 7 forced eight))
 
 -- and where P is the memory's colour and that is not known, it is not: its red may be 0 or 255
 module _ (mode : RenderMode) (k : Combiner) (s : Source) (x : Pixel)
-    (forced : mode .«force_blend» ≡ false) (eight : onesOf (s .mask) ≡ 8) (low : orZero (coverageAt x) ≤ 7)
+    (forced : mode .«force_blend» ≡ false) (eight : s .count ≡ 8) (low : orZero (coverageAt x) ≤ 7)
     (gone : missing (muxOf (mode .«blender_mux») .p) (colorMarked (x .mark)) ≡ true) where
   abbrev withRed : ℕ → Pixel
   withRed r = record { red = r; green = 0; blue = 0; coverage = orZero (coverageAt x); mark = 3 }
@@ -217,9 +212,9 @@ module _ (mode : RenderMode) (k : Combiner) (s : Source) (x : Pixel)
   red-stays r =
       let y = withRed r in
       ap (λ (c : Colors). c .red) (all-colors mode k s y (red-completes r .all))
-      ∙ alone-blend-memory mode k (s .color) (s .«shade_alpha») (onesOf (s .mask)) (memoryOf true y) (y .coverage)
+      ∙ alone-blend-memory mode k (s .color) (s .«shade_alpha») (s .count) (memoryOf true y) (y .coverage)
       (eqb-true (muxOf (mode .«blender_mux») .p) 1 (both-left (eqb (muxOf (mode .«blender_mux») .p) 1) (not (colorMarked (x .mark))) gone))
-      (full-alone mode (s .color .a) (onesOf (s .mask)) (y .coverage) forced eight)
+      (full-alone mode (s .color .a) (s .count) (y .coverage) forced eight)
 
   pub full-uncertain : (v : Colors) → CertainColors mode k s x v → ⊥
   unfolding div ofInt mul lt
@@ -251,6 +246,6 @@ module _ (mode : RenderMode) (k : Combiner) (s : Source) (x : Pixel) (doubt : ru
       go false a true r t = never t
 
   pub full-given-up :
-      onesOf (s .mask) ≡ 8 → missing (muxOf (mode .«blender_mux») .p) (colorMarked (x .mark)) ≡ false
+      s .count ≡ 8 → missing (muxOf (mode .«blender_mux») .p) (colorMarked (x .mark)) ≡ false
       → (knownAfter mode s x ≡ false) × CertainColors mode k s x (colorsOver mode k s x 7)
   full-given-up eight there = (left-unknown, full-certain mode k s x not-forced eight there)

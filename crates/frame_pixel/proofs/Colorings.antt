@@ -5,7 +5,6 @@ use mathlib.Core.Path.{_≡_, refl, sym, ap, _∙_}
 use mathlib.Core.Bool.{Bool, true, false, cond, not, _&&_}
 use lib.Dec.{eqb}
 use lib.Ieee.{Float}
-use Rattle.num_bits.specs.Ones.{onesOf}
 use Rattle.state.specs.declared.RenderMode.{RenderMode}
 use Rattle.state.specs.declared.Rgba.{Rgba}
 use Rattle.combiner.specs.declared.Combiner.{Combiner}
@@ -50,7 +49,7 @@ module _ (mode : RenderMode) (k : Combiner) (s : Source) (x : Pixel) (o : Opaque
   opaque-yes =
       let c = coverageAt x in
       let q = doubt (unknown c) (mode .antialias) (not (mode .«force_blend»)) (not (reject mode (s .color .a))) (o .sure) in
-      λ i. opaque-known o (onesOf (s .mask)) c (colorMarked (x .mark)) i && not (q i)
+      λ i. opaque-known o (s .count) c (colorMarked (x .mark)) i && not (q i)
     where
       doubt : (u a f r : Bool) → (a && f && r) ≡ false → (u && a && f && r) ≡ false
       doubt true a f r e = e
@@ -60,7 +59,7 @@ module _ (mode : RenderMode) (k : Combiner) (s : Source) (x : Pixel) (o : Opaque
   unfolding colorsAfter ruleF3 ownColors
   opaque-colors =
       let c = orZero (coverageAt x) in
-      let b = alone-blend mode k (s .color) (memoryOf (colorMarked (x .mark)) x) (s .«shade_alpha») (onesOf (s .mask)) c (o .own) (o .alone (onesOf (s .mask)) (Known c)) in
+      let b = alone-blend mode k (s .color) (memoryOf (colorMarked (x .mark)) x) (s .«shade_alpha») (s .count) c (o .own) (o .alone (s .count) (Known c)) in
       (λ i. cond (opaque-yes i) (ruleF3 mode k s (coverageAt x) (memoryOf (colorMarked (x .mark)) x)) (ruleF4 x))
       ∙ (λ i. record { red = b .0 i; green = b .1 .0 i; blue = b .1 .1 i })
 
@@ -71,7 +70,7 @@ module _ (mode : RenderMode) (k : Combiner) (s : Source) (x : Pixel) (o : Layere
   layered-known =
       let c = coverageAt x in
       let marked = colorMarked (x .mark) in
-      (λ i. layer-known o (onesOf (s .mask)) c marked i && not (unknown c && mode .antialias && not (o .forced i) && not (reject mode (s .color .a))))
+      (λ i. layer-known o (s .count) c marked i && not (unknown c && mode .antialias && not (o .forced i) && not (reject mode (s .color .a))))
       ∙ (λ i. marked && not (no (unknown c && mode .antialias) (not (reject mode (s .color .a))) i))
       ∙ and-true marked
     where
@@ -82,7 +81,7 @@ module _ (mode : RenderMode) (k : Combiner) (s : Source) (x : Pixel) (o : Layere
   layer-stored : (marked : Bool) → marked ≡ true → ruleF3 mode k s (coverageAt x) (memoryOf marked x) ≡ overColors (layerOf mode k (s .color)) (ruleF4 x)
   unfolding ruleF3 memoryOf overColors
   layer-stored marked e =
-      let b = layer-blend mode k (s .color) (memoryOf true x) (s .«shade_alpha») (onesOf (s .mask)) (orZero (coverageAt x)) o in
+      let b = layer-blend mode k (s .color) (memoryOf true x) (s .«shade_alpha») (s .count) (orZero (coverageAt x)) o in
       (λ i. ruleF3 mode k s (coverageAt x) (memoryOf (e i) x)) ∙ (λ i. record { red = b .0 i; green = b .1 .0 i; blue = b .1 .1 i })
 
   pub layered-colors : colorsAfter mode k s x ≡ cond (colorMarked (x .mark)) (overColors (layerOf mode k (s .color)) (ruleF4 x)) (ruleF4 x)
@@ -92,9 +91,9 @@ module _ (mode : RenderMode) (k : Combiner) (s : Source) (x : Pixel) (o : Layere
       ∙ where-known (colorMarked (x .mark)) (ruleF4 x) (layer-stored (colorMarked (x .mark)))
 
 -- ---- the shade's alpha has no part in an opaque pixel, nor in one whose A is not that alpha
-module _ (mode : RenderMode) (k : Combiner) (color : Rgba) (mask : ℕ) (x : Pixel) where
+module _ (mode : RenderMode) (k : Combiner) (color : Rgba) (n : ℕ) (x : Pixel) where
   abbrev shaded : Float → Source
-  shaded s = record { color = color; «shade_alpha» = s; mask = mask }
+  shaded s = record { color = color; «shade_alpha» = s; count = n }
 
   pub opaque-step : (s t : Float) → Opaque mode (color .a) → pixelStep mode k (shaded s) x ≡ pixelStep mode k (shaded t) x
   unfolding pixelStep knownAfter coverageAfter ruleF1 ruleF2
@@ -105,7 +104,7 @@ module _ (mode : RenderMode) (k : Combiner) (color : Rgba) (mask : ℕ) (x : Pix
   pub unshaded-step : (s t : Float) → eqb (muxOf (mode .«blender_mux») .a) 2 ≡ false → pixelStep mode k (shaded s) x ≡ pixelStep mode k (shaded t) x
   unfolding pixelStep knownAfter colorsAfter coverageAfter ruleF1 ruleF2 ruleF3
   unshaded-step s t e =
-      let bytes = unshaded-blend mode k color (memoryOf (colorMarked (x .mark)) x) s t (onesOf mask) (orZero (coverageAt x)) e in
+      let bytes = unshaded-blend mode k color (memoryOf (colorMarked (x .mark)) x) s t n (orZero (coverageAt x)) e in
       λ i.
       assembled (knownAfter mode (shaded s) x)
       (cond (knownAfter mode (shaded s) x) (record { red = bytes i .r; green = bytes i .g; blue = bytes i .b }) (ruleF4 x))
@@ -135,14 +134,14 @@ module _ (mode : RenderMode) (k : Combiner) (s : Source) (x : Pixel) where
 
   module _ (sure : ruleF2 mode s (coverageAt x) ≡ false) (m : Memory) (known : isKnown m ≡ colorMarked (x .mark)) (color : orZeros m ≡ memoryOf (colorMarked (x .mark)) x) where
     abbrev bytes : Bytes
-    bytes = blendOf mode k (s .color) (orZeros m) (s .«shade_alpha») (onesOf (s .mask)) (orZero (coverageAt x))
+    bytes = blendOf mode k (s .color) (orZeros m) (s .«shade_alpha») (s .count) (orZero (coverageAt x))
 
     asked : stored-in (joined mode k s (coverageAt x) m) ≡ knownAfter mode s x
     unfolding joined knownAfter ruleF1
     asked =
-        go (colorKnown mode (s .color .a) (onesOf (s .mask)) (coverageAt x) (isKnown m))
-        ∙ sym (and-true (colorKnown mode (s .color .a) (onesOf (s .mask)) (coverageAt x) (isKnown m)))
-        ∙ (λ i. colorKnown mode (s .color .a) (onesOf (s .mask)) (coverageAt x) (known i) && not (sym sure i))
+        go (colorKnown mode (s .color .a) (s .count) (coverageAt x) (isKnown m))
+        ∙ sym (and-true (colorKnown mode (s .color .a) (s .count) (coverageAt x) (isKnown m)))
+        ∙ (λ i. colorKnown mode (s .color .a) (s .count) (coverageAt x) (known i) && not (sym sure i))
       where
         go : (b : Bool) → stored-in (cond b (Stored (bytes .r) (bytes .g) (bytes .b) (bytes .a)) Fallback) ≡ b
         go true = refl
@@ -163,10 +162,10 @@ module _ (mode : RenderMode) (k : Combiner) (s : Source) (x : Pixel) where
     unfolding joined colorsAfter ruleF3
     was-stored e =
         let yes = sym asked ∙ ap stored-in e in
-        let new = ap colors-in (sym e) ∙ answered (colorKnown mode (s .color .a) (onesOf (s .mask)) (coverageAt x) (isKnown m)) (ap stored-in e) in
+        let new = ap colors-in (sym e) ∙ answered (colorKnown mode (s .color .a) (s .count) (coverageAt x) (isKnown m)) (ap stored-in e) in
         let same : _≡_ {A = Colors} (record { red = bytes .r; green = bytes .g; blue = bytes .b }) told =
         λ i.
-        let c = blendOf mode k (s .color) (color i) (s .«shade_alpha») (onesOf (s .mask)) (orZero (coverageAt x)) in
+        let c = blendOf mode k (s .color) (color i) (s .«shade_alpha») (s .count) (orZero (coverageAt x)) in
         record { red = c .r; green = c .g; blue = c .b } in
         let all : _≡_ {A = Colors} _ (cond (knownAfter mode s x) told (ruleF4 x)) = new ∙ same ∙ (λ i. cond (sym yes i) told (ruleF4 x)) in
         λ i. record { known = sym yes i; colors = all i }

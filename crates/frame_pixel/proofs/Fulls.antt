@@ -5,7 +5,6 @@ use mathlib.Core.Path.{_≡_, refl, sym, ap, _∙_}
 use mathlib.Core.Bool.{Bool, true, false, cond, not, _&&_, _||_}
 use borrow.Author.Tests.{ne-eqb, eqb-true}
 use lib.Dec.{eqb}
-use Rattle.num_bits.specs.Ones.{onesOf}
 use Rattle.state.specs.declared.RenderMode.{RenderMode}
 use Rattle.state.specs.declared.Rgba.{Rgba}
 use Rattle.combiner.specs.declared.Combiner.{Combiner}
@@ -95,7 +94,7 @@ full-rule mode Unknown h = (λ i. cond (unknown-asked mode i) (Known 7) Unknown)
 full-rule mode (Known c) h = (λ i. Known (cond (known-asked mode i) 7 c)) ∙ ap Known (sym (full-known mode c h))
 
 -- ---- a pixel with all samples
-module _ (mode : RenderMode) (k : Combiner) (s : Source) (x : Pixel) (n : onesOf (s .mask) ≡ 8) where
+module _ (mode : RenderMode) (k : Combiner) (s : Source) (x : Pixel) (n : s .count ≡ 8) where
   and-false : (b : Bool) → (b && false) ≡ false
   and-false true = refl
   and-false false = refl
@@ -108,7 +107,7 @@ module _ (mode : RenderMode) (k : Combiner) (s : Source) (x : Pixel) (n : onesOf
     unfolding ruleF1 ruleF2
     steady-verdict true marked c = λ i. ((λ j. colorKnown mode (s .color .a) (n j) (Known c) marked) ∙ steady-known o (s .color .a) c marked) i && true
     steady-verdict false marked c =
-        (λ i. colorKnown mode (s .color .a) (onesOf (s .mask)) Unknown marked && not (steady-doubt o (s .color .a) h i)) ∙ and-false (colorKnown mode (s .color .a) (onesOf (s .mask)) Unknown marked)
+        (λ i. colorKnown mode (s .color .a) (s .count) Unknown marked && not (steady-doubt o (s .color .a) h i)) ∙ and-false (colorKnown mode (s .color .a) (s .count) Unknown marked)
 
     steady-yes : knownAfter mode s x ≡ coverageMarked (x .mark)
     unfolding knownAfter
@@ -118,7 +117,7 @@ module _ (mode : RenderMode) (k : Combiner) (s : Source) (x : Pixel) (n : onesOf
     unfolding ruleF3 ownColors
     steady-stored true c memory e =
         let alone = (λ i. alone mode (s .color .a) (n i) (Known c)) ∙ steady-alone o (s .color .a) c in
-        let b = alone-blend mode k (s .color) memory (s .«shade_alpha») (onesOf (s .mask)) c (o .own) alone in
+        let b = alone-blend mode k (s .color) memory (s .«shade_alpha») (s .count) c (o .own) alone in
         λ i. record { red = b .0 i; green = b .1 .0 i; blue = b .1 .1 i }
     steady-stored false c memory e = never e
 

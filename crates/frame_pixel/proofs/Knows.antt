@@ -1,14 +1,12 @@
 -- Knowing more never changes what was known: if pixel y knows at least what pixel x knows, then it does so after a step. A yes of F1 and F2 on x is a yes on y with
--- the same three bytes, and a coverage that F5 knows on x it knows on y, and is the same. For every mode, combiner and source, and for any bytes. F2 is what the
+-- the same three bytes, and a coverage that F5 knows on x it knows on y, and is the same. For every mode, combiner, source and count, and for any bytes. F2 is what the
 -- bytes need: where it has no doubt, P is stored as it is over every coverage that the memory may have, or over none. Assumes nothing.
-use Prim.Native.Nat.{ℕ, _-_, _≤_, _<_}
+use Prim.Native.Nat.{ℕ, _-_, _≤_}
 use mathlib.Core.Path.{_≡_, refl, sym, ap, subst, _∙_}
 use mathlib.Core.Bool.{Bool, true, false, cond, not, _&&_, _||_}
 use native.Mathlib.Omega.{arith}
 use borrow.Author.Tests.{eqb-true, not-true}
 use lib.Dec.{eqb}
-use Rattle.num_bits.specs.Ones.{onesOf}
-use Rattle.num_bits.proofs.Masks.{ones-range}
 use Rattle.state.specs.declared.RenderMode.{RenderMode}
 use Rattle.state.specs.declared.Rgba.{Rgba}
 use Rattle.combiner.specs.declared.Combiner.{Combiner}
@@ -118,14 +116,14 @@ module _ (mode : RenderMode) (s : Source) (c : Coverage) (a : Bool) (known : (ru
   module _ (d : Coverage) (b : Bool) (l : Less c d) (h : a ≡ true → b ≡ true) where
     yes-too : (ruleF1 mode s d b && not (ruleF2 mode s d)) ≡ true
     unfolding ruleF1
-    yes-too = λ i. known-more mode (s .color .a) (onesOf (s .mask)) c a said l h i && not (doubt-less mode s l sure i)
+    yes-too = λ i. known-more mode (s .color .a) (s .count) c a said l h i && not (doubt-less mode s l sure i)
 
     colors-too : (k : Combiner) {m m′ : Rgba} → (a ≡ true → m′ ≡ m) → ruleF3 mode k s d m′ ≡ ruleF3 mode k s c m
     unfolding ruleF1 ruleF3
     colors-too k {m} {m′} e =
         ap (λ (v : Bytes). record { red = v .r; green = v .g; blue = v .b })
-        (blend-same mode k (s .color) (s .«shade_alpha») (onesOf (s .mask)) c a m′ m (orZero d) (orZero c) said e (less-zero l) (less-zero (less-self c))
-        (sure-alone mode s (onesOf (s .mask)) sure (less-zero l) (less-zero (less-self c))))
+        (blend-same mode k (s .color) (s .«shade_alpha») (s .count) c a m′ m (orZero d) (orZero c) said e (less-zero l) (less-zero (less-self c))
+        (sure-alone mode s (s .count) sure (less-zero l) (less-zero (less-self c))))
 
 -- ---- a step
 -- the memory's colour, where it is known
@@ -153,7 +151,7 @@ module _ (mode : RenderMode) (k : Combiner) (s : Source) (y x : Pixel) (h : Know
   -- a coverage that is known after it on x is known after it on y, and is the same
   pub coverage-too : Less (coverageAfter mode s x) (coverageAfter mode s y)
   unfolding coverageAfter
-  coverage-too = rule-less mode (onesOf (s .mask)) less
+  coverage-too = rule-less mode (s .count) less
 
   -- One emitted pixel keeps it: if y knows at least what x knows, it does so after the pixel.
   pub pixel-knows : KnowsPixel (pixelStep mode k s y) (pixelStep mode k s x)
@@ -186,12 +184,10 @@ module _ (mode : RenderMode) (k : Combiner) (s : Source) (y x : Pixel) (h : Know
 
 -- a known coverage keeps its three bits
 pub coverage-after :
-    (mode : RenderMode) (k : Combiner) (s : Source) (x : Pixel) → 0 < s .mask → s .mask < 256 → orZero (coverageAt x) ≤ 7
+    (mode : RenderMode) (k : Combiner) (s : Source) (x : Pixel) → 1 ≤ s .count → s .count ≤ 8 → orZero (coverageAt x) ≤ 7
     → orZero (coverageAt (pixelStep mode k s x)) ≤ 7
 unfolding coverageAfter
-coverage-after mode k s x p q h =
-    let n = ones-range (s .mask) p q in
-    rw (covered-after mode k s x) (rule-le mode (onesOf (s .mask)) (coverageAt x) (n .0) (n .1) h)
+coverage-after mode k s x p q h = rw (covered-after mode k s x) (rule-le mode (s .count) (coverageAt x) p q h)
 
 -- ---- a pixel of which everything is known
 -- its coverage
@@ -204,7 +200,7 @@ module _ (mode : RenderMode) (k : Combiner) (s : Source) (x : Pixel) (h : AllKno
   unfolding knownAfter ruleF1 ruleF2
   all-known =
       (λ i. ruleF1 mode s (all-covered x h i) (h .mark1 i) && not (ruleF2 mode s (all-covered x h i)))
-      ∙ (λ i. known-all mode (s .color .a) (onesOf (s .mask)) (x .coverage) i && true)
+      ∙ (λ i. known-all mode (s .color .a) (s .count) (x .coverage) i && true)
 
   -- so its colours are F3's over its own coverage
   pub all-colors : colorsAfter mode k s x ≡ ruleF3 mode k s (Known (x .coverage)) (memoryOf (colorMarked (x .mark)) x)
@@ -216,7 +212,7 @@ module _ (mode : RenderMode) (k : Combiner) (s : Source) (x : Pixel) (h : AllKno
   unfolding pixelStep assembled colorsAfter coverageAfter ruleF3 ruleF5 consoleStep
   all-known-step =
       λ i.
-      assembled (all-known i) (cond (all-known i) (ruleF3 mode k s (all-covered x h i) (memoryOf (h .mark1 i) x)) (ruleF4 x)) (ruleF5 mode (onesOf (s .mask)) (all-covered x h i))
+      assembled (all-known i) (cond (all-known i) (ruleF3 mode k s (all-covered x h i) (memoryOf (h .mark1 i) x)) (ruleF4 x)) (ruleF5 mode (s .count) (all-covered x h i))
       (x .coverage)
 
   -- everything is known of it after an emitted pixel

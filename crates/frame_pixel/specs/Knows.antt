@@ -2,7 +2,6 @@
 -- Source: docs/RULES.md, What is known is true.
 use mathlib.Core.Path.{_≡_}
 use mathlib.Core.Bool.{true}
-use Rattle.num_bits.specs.Ones.{onesOf}
 use Rattle.state.specs.declared.RenderMode.{RenderMode}
 use Rattle.combiner.specs.declared.Combiner.{Combiner}
 use Rattle.blender.specs.declared.Source.{Source}
@@ -30,5 +29,5 @@ pub record AllKnownPixel (x : Pixel) : Type 0 where
 -- has a part in it
 unfoldable pub consoleStep : RenderMode → Combiner → Source → Pixel → Pixel
 consoleStep mode k s x =
-    let bytes = blendOf mode k (s .color) (memoryOf true x) (s .«shade_alpha») (onesOf (s .mask)) (x .coverage) in
-    record { red = bytes .r; green = bytes .g; blue = bytes .b; coverage = destinationOf mode (onesOf (s .mask)) (x .coverage); mark = markOf true true }
+    let bytes = blendOf mode k (s .color) (memoryOf true x) (s .«shade_alpha») (s .count) (x .coverage) in
+    record { red = bytes .r; green = bytes .g; blue = bytes .b; coverage = destinationOf mode (s .count) (x .coverage); mark = markOf true true }

@@ -5,7 +5,6 @@ use mathlib.Core.Bool.{Bool, cond, not, _&&_}
 use lib.IntN.{pos}
 use lib.Dec.{eqb}
 use lib.Ieee.{Float, binary32, ofInt, div}
-use Rattle.num_bits.specs.Ones.{onesOf}
 use Rattle.num_float.specs.Color.{f0}
 use Rattle.num_float.specs.Whole.{f255}
 use Rattle.state.specs.declared.RenderMode.{RenderMode}
@@ -21,9 +20,9 @@ use Rattle.frame_pixel.specs.declared.Colors.{Colors}
 use Rattle.blender.specs.declared.Source.{Source}
 use Rattle.frame_pixel.specs.Marks.{colorMarked, coverageOf, unknown, markOf}
 
--- F1: `color_known`, asked with the pixel's alpha, its mask's number of ones, the coverage if it is marked, and whether the colour is marked
+-- F1: `color_known`, asked with the pixel's alpha, its count, the coverage if it is marked, and whether the colour is marked
 unfoldable pub ruleF1 : RenderMode → Source → Coverage → Bool → Bool
-ruleF1 mode s coverage marked = colorKnown mode (s .color .a) (onesOf (s .mask)) coverage marked
+ruleF1 mode s coverage marked = colorKnown mode (s .color .a) (s .count) coverage marked
 
 -- F2: in doubt. The coverage is unmarked, antialias is on, force_blend is off, and the pixel is not one with A 0, B 0 and alpha 1.0 or more
 unfoldable pub ruleF2 : RenderMode → Source → Coverage → Bool
@@ -42,7 +41,7 @@ memoryOf marked x =
 -- F3: on yes, the first three bytes of `blend`
 unfoldable pub ruleF3 : RenderMode → Combiner → Source → Coverage → Rgba → Colors
 ruleF3 mode k s coverage memory =
-    let bytes = blendOf mode k (s .color) memory (s .«shade_alpha») (onesOf (s .mask)) (orZero coverage) in
+    let bytes = blendOf mode k (s .color) memory (s .«shade_alpha») (s .count) (orZero coverage) in
     record { red = bytes .r; green = bytes .g; blue = bytes .b }
 
 -- F4: on no, the bytes stay
@@ -81,7 +80,7 @@ colorsAfter mode k s x = cond (knownAfter mode s x) (ruleF3 mode k s (coverageAt
 
 -- the coverage after it: F5
 unfoldable pub coverageAfter : RenderMode → Source → Pixel → Coverage
-coverageAfter mode s x = ruleF5 mode (onesOf (s .mask)) (coverageAt x)
+coverageAfter mode s x = ruleF5 mode (s .count) (coverageAt x)
 
 -- a pixel of which this much is known: its mark says so, and a coverage that is not known keeps the byte that stood there
 unfoldable pub assembled : Bool → Colors → Coverage → ℕ → Pixel

@@ -19,8 +19,7 @@ use state::Rgba;
 // The coverage of eight samples.
 pub const FULL_COVERAGE: u8 = 7;
 
-// The mask of all eight samples.
-const ALL: u8 = 255;
+const ALL: u8 = 8;
 
 // What full pixels of a colour need. As single fields and no enum: a loop over pixels asks them once.
 pub struct Full {

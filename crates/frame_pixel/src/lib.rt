@@ -2,8 +2,7 @@
 // allows; an unmarked one is only ever kept.
 ghost use mathlib.Core.Path.{_≡_};
 ghost use mathlib.Core.Bool.{false, cond};
-ghost use Prim.Native.Nat.{_≤_, _<_};
-ghost use Rattle.num_bits.specs.Ones.{onesOf};
+ghost use Prim.Native.Nat.{_≤_};
 ghost use Rattle.blender.specs.Blend.{orZero};
 ghost use Rattle.blender.specs.Joined.{isKnown, orZeros};
 ghost use Rattle.frame_pixel.specs.Marks.{colorMarked, coverageMarked, coverageOf, unknown, markOf};
@@ -254,13 +253,13 @@ fn fresh(mode: RenderMode, count: u8) -> Coverage
 }
 
 // F5.
-fn next_coverage(mode: RenderMode, mask: u8, coverage: Coverage) -> Coverage
-    requires { ⌜ 0 < mask ⌝ ∗ ⌜ orZero coverage ≤ 7 ⌝ }
-    ensures { λ r. ⌜ r ≡ ruleF5 mode (onesOf mask) coverage ⌝ }
+fn next_coverage(mode: RenderMode, count: u8, coverage: Coverage) -> Coverage
+    requires { ⌜ (1 ≤ count) × (count ≤ 8) ⌝ ∗ ⌜ orZero coverage ≤ 7 ⌝ }
+    ensures { λ r. ⌜ r ≡ ruleF5 mode count coverage ⌝ }
 {
     match coverage {
-        Coverage::Known(c) => Coverage::Known(blender::destination(mode, mask, c)),
-        Coverage::Unknown => fresh(mode, num_bits::ones(mask)),
+        Coverage::Known(c) => Coverage::Known(blender::destination(mode, count, c)),
+        Coverage::Unknown => fresh(mode, count),
     }
 }
 
@@ -295,13 +294,13 @@ pub fn step(
     coloring: Coloring,
     bytes: Pixel,
 ) -> Pixel
-    requires { ⌜ 0 < source .mask ⌝ ∗ ⌜ orZero (coverageAt bytes) ≤ 7 ⌝ ∗ ⌜ ColoringOf mode combiner (source .color) coloring ⌝ }
+    requires { ⌜ (1 ≤ source .count) × (source .count ≤ 8) ⌝ ∗ ⌜ orZero (coverageAt bytes) ≤ 7 ⌝ ∗ ⌜ ColoringOf mode combiner (source .color) coloring ⌝ }
     ensures { λ r. ⌜ r ≡ pixelStep mode combiner source bytes ⌝ }
 {
     let old = bytes.coverage;
     let coverage = coverage_of(bytes.mark, old);
     let color = color_after(mode, combiner, source, coloring, coverage, bytes);
-    let after = next_coverage(mode, source.mask, coverage);
+    let after = next_coverage(mode, source.count, coverage);
     assemble(color, after, old)
 }
 

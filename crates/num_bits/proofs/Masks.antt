@@ -8,7 +8,7 @@ use lib.Pow.{pow-mono}
 use lib.Count.{ones-step, ones-ones, ones-le}
 use Rattle.num_bits.specs.Ones.{onesOf}
 
-pub some-ones : (m : ℕ) → 0 < m → 1 ≤ onesOf m
+some-ones : (m : ℕ) → 0 < m → 1 ≤ onesOf m
 some-ones = bin-ind (λ (m : ℕ). 0 < m → 1 ≤ onesOf m) (λ h. absurd (none h)) (λ m ih h. by m h ih (decLe 2 m))
   where
     none : 0 < 0 → ⊥

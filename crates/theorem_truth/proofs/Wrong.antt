@@ -3,7 +3,6 @@ use Prim.Native.Nat.{ℕ}
 use mathlib.Core.Path.{_≡_, refl, sym, _∙_}
 use mathlib.Core.Bool.{Bool, true, false, not, _&&_}
 use native.Mathlib.Omega.{arith}
-use lib.Count.{ones}
 use lib.Ieee.{lt, le, mul, add, sub, div, ofInt}
 use Rattle.num_bits.specs.Field.{field}
 use Rattle.state.specs.declared.RenderMode.{RenderMode}
@@ -28,7 +27,7 @@ more red coverage = record { mark1 = λ t. refl; red = λ t. never t; green = λ
 fog-step :
     (colorMarked (withoutF2 fogged fog white nothingKnown .mark) ≡ true) × (withoutF2 fogged fog white nothingKnown .red ≡ 0)
     × (withoutF2 fogged fog white (allKnown 0 7) .red ≡ 255)
-unfolding withoutF2 assembled markOf ruleF1 ruleF3 ruleF5 freshCoverage coverageAfter memoryOf known.colorKnown known.anyCoverage known.reject known.alone blends muxOf field lt le mul add sub div ofInt factorB mixedOf bytesOf blendOf clampOf destinationOf ones
+unfolding withoutF2 assembled markOf ruleF1 ruleF3 ruleF5 freshCoverage coverageAfter memoryOf known.colorKnown known.anyCoverage known.reject known.alone blends muxOf field lt le mul add sub div ofInt factorB mixedOf bytesOf blendOf clampOf destinationOf
 fog-step = (refl, refl, refl)
 
 -- Without F2 the law of one pixel is false.
@@ -51,7 +50,7 @@ without-same mode k s x e =
 zeros-step :
     (colorMarked (zerosStored overMemory fog white nothingKnown .mark) ≡ true) × (zerosStored overMemory fog white nothingKnown .red ≡ 0)
     × (zerosStored overMemory fog white (allKnown 255 7) .red ≡ 255)
-unfolding zerosStored assembled markOf ruleF1 ruleF2 ruleF3 ruleF5 freshCoverage coverageAfter memoryOf known.colorKnown known.anyCoverage known.reject known.alone blends muxOf field lt le mul add sub div ofInt factorB mixedOf bytesOf blendOf clampOf destinationOf ones
+unfolding zerosStored assembled markOf ruleF1 ruleF2 ruleF3 ruleF5 freshCoverage coverageAfter memoryOf known.colorKnown known.anyCoverage known.reject known.alone blends muxOf field lt le mul add sub div ofInt factorB mixedOf bytesOf blendOf clampOf destinationOf
 zeros-step = (refl, refl, refl)
 
 pub zeros-wrong : Breaks zerosStored overMemory (allKnown 255 7) nothingKnown
@@ -61,7 +60,7 @@ zeros-wrong = (more 255 7, λ h. let e : _≡_ {A = ℕ} 255 0 = sym (zeros-step
 stale-step :
     (colorMarked (staleKept intoMemory fog white colorKnown .mark) ≡ true) × (staleKept intoMemory fog white colorKnown .red ≡ 0)
     × (staleKept intoMemory fog white (allKnown 0 7) .red ≡ 255)
-unfolding staleKept assembled markOf ruleF1 ruleF2 ruleF3 ruleF5 freshCoverage coverageAfter colorsAfter knownAfter memoryOf known.colorKnown known.anyCoverage known.reject known.alone blends muxOf field lt le mul add sub div ofInt factorB mixedOf bytesOf blendOf clampOf destinationOf ones
+unfolding staleKept assembled markOf ruleF1 ruleF2 ruleF3 ruleF5 freshCoverage coverageAfter colorsAfter knownAfter memoryOf known.colorKnown known.anyCoverage known.reject known.alone blends muxOf field lt le mul add sub div ofInt factorB mixedOf bytesOf blendOf clampOf destinationOf
 stale-step = (refl, refl, refl)
 
 pub stale-wrong : Breaks staleKept intoMemory (allKnown 0 7) colorKnown
@@ -74,7 +73,7 @@ stale-wrong = (before, λ h. let e : _≡_ {A = ℕ} 255 0 = sym (stale-step .2)
 count-step :
     (coverageMarked (countUnderAntialias smooth fog white nothingKnown .mark) ≡ true) × (countUnderAntialias smooth fog white nothingKnown .coverage ≡ 0)
     × (countUnderAntialias smooth fog white (allKnown 0 0) .coverage ≡ 1)
-unfolding countUnderAntialias assembled markOf ruleF1 ruleF2 ruleF3 ruleF5 colorsAfter knownAfter memoryOf known.colorKnown known.anyCoverage known.reject known.alone blends muxOf field lt le mul add sub div ofInt factorB mixedOf bytesOf blendOf clampOf destinationOf ones
+unfolding countUnderAntialias assembled markOf ruleF1 ruleF2 ruleF3 ruleF5 colorsAfter knownAfter memoryOf known.colorKnown known.anyCoverage known.reject known.alone blends muxOf field lt le mul add sub div ofInt factorB mixedOf bytesOf blendOf clampOf destinationOf
 count-step = (refl, refl, refl)
 
 pub count-wrong : Breaks countUnderAntialias smooth (allKnown 0 0) nothingKnown
@@ -84,7 +83,7 @@ count-wrong = (more 0 0, λ h. let e : _≡_ {A = ℕ} 1 0 = sym (count-step .2)
 mark-step :
     (coverageMarked (markAlone saved fog white nothingKnown .mark) ≡ true) × (markAlone saved fog white nothingKnown .coverage ≡ 0)
     × (markAlone saved fog white (allKnown 0 7) .coverage ≡ 7)
-unfolding markAlone markOf ruleF1 ruleF2 ruleF3 ruleF5 freshCoverage coverageAfter colorsAfter knownAfter memoryOf known.colorKnown known.anyCoverage known.reject known.alone blends muxOf field lt le mul add sub div ofInt factorB mixedOf bytesOf blendOf clampOf destinationOf ones
+unfolding markAlone markOf ruleF1 ruleF2 ruleF3 ruleF5 freshCoverage coverageAfter colorsAfter knownAfter memoryOf known.colorKnown known.anyCoverage known.reject known.alone blends muxOf field lt le mul add sub div ofInt factorB mixedOf bytesOf blendOf clampOf destinationOf
 mark-step = (refl, refl, refl)
 
 pub mark-wrong : Breaks markAlone saved (allKnown 0 7) nothingKnown

@@ -5,7 +5,6 @@ use mathlib.Core.Bool.{Bool, true, false, cond, not, _&&_, _||_}
 use lib.Dec.{eqb}
 use lib.IntN.{pos}
 use lib.Ieee.{fin}
-use Rattle.num_bits.specs.Ones.{onesOf}
 use Rattle.num_float.specs.Color.{f0, f1}
 use Rattle.state.specs.declared.RenderMode.{RenderMode}
 use Rattle.combiner_inputs.specs.Combine.{cycle1}
@@ -44,7 +43,7 @@ countStored mode n (Known c) = ruleF5 mode n (Known c)
 countStored mode n Unknown = cond (eqb (mode .«cvg_dst») 0 && not (mode .«force_blend»)) (Known (n - 1)) (ruleF5 mode n Unknown)
 
 unfoldable pub countUnderAntialias : RenderMode → Combiner → Source → Pixel → Pixel
-countUnderAntialias mode k s x = assembled (knownAfter mode s x) (colorsAfter mode k s x) (countStored mode (onesOf (s .mask)) (coverageAt x)) (x .coverage)
+countUnderAntialias mode k s x = assembled (knownAfter mode s x) (colorsAfter mode k s x) (countStored mode (s .count) (coverageAt x)) (x .coverage)
 
 -- mark 2 set where F5 leaves the coverage unknown too, on the byte that stands there
 unfoldable pub markAlone : RenderMode → Combiner → Source → Pixel → Pixel
@@ -66,7 +65,7 @@ fog = record { selectors = cycle1 0 0; prim = grey f0; env = grey f0; blend = gr
 
 -- a white pixel with one sample
 abbrev pub white : Source
-white = record { color = grey f1; «shade_alpha» = f1; mask = 1 }
+white = record { color = grey f1; «shade_alpha» = f1; count = 1 }
 
 -- antialias, P and M the pixel's colour, A fog's alpha and B 1 - A
 abbrev pub fogged : RenderMode

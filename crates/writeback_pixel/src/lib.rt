@@ -132,7 +132,8 @@ pub fn destination(mode: RenderMode, mask: u8, memory: u8) -> Stored
 {
     if mask_ok(mask) {
         if coverage_ok(memory) {
-            return Stored::Coverage(blender::destination(mode, mask, memory));
+            let count = num_bits::ones(mask);
+            return Stored::Coverage(blender::destination(mode, count, memory));
         }
         return Stored::Refused;
     }
@@ -151,7 +152,8 @@ pub fn color_known(
 {
     if mask_ok(mask) {
         if known_ok(coverage) {
-            return yes_or_no(blender::color_known(mode, alpha, mask, coverage, memory_rgb));
+            let count = num_bits::ones(mask);
+            return yes_or_no(blender::color_known(mode, alpha, count, coverage, memory_rgb));
         }
         return Answer::Refused;
     }
@@ -172,7 +174,8 @@ pub fn blend(
 {
     if mask_ok(mask) {
         if coverage_ok(coverage) {
-            let bytes = blender::blend(mode, combiner, rgba, memory, shade_alpha, mask, coverage);
+            let count = num_bits::ones(mask);
+            let bytes = blender::blend(mode, combiner, rgba, memory, shade_alpha, count, coverage);
             return Blended::Bytes(bytes.r, bytes.g, bytes.b, bytes.a);
         }
         return Blended::Refused;

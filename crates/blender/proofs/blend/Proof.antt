@@ -4,7 +4,6 @@ use Prim.Native.Nat.{ℕ}
 use mathlib.Core.Bool.{Bool}
 use lib.Ieee.{Float}
 use borrow.Author.Needs.{needs}
-use Rattle.num_bits.specs.Ones.{onesOf}
 use Rattle.state.specs.declared.RenderMode.{RenderMode}
 use Rattle.state.specs.declared.Rgba.{Rgba}
 use Rattle.combiner.specs.declared.Combiner.{Combiner}
@@ -32,9 +31,6 @@ factor-a-requires c κs = search needs
 factor-b-requires : tie.Need-factor-b-requires
 factor-b-requires c κs = search needs
 
-ones-requires : tie.Need-ones-requires
-ones-requires c κs = search needs
-
 stands-alone-requires : tie.Need-stands-alone-requires
 stands-alone-requires c κs = search needs
 
@@ -61,16 +57,15 @@ module _ (mode : RenderMode) (combiner : Combiner) (rgba memory : Rgba) (shade :
 returns : tie.Need-returns
 returns c =
     let stands = c .before in
-    let n = stands .before in
-    let fb = n .before in
+    let fb = stands .before in
     let fa = fb .before in
     let sm = fa .before in
     let sp = sm .before in
     let d = sp .before in
     let s = d .before .args in
-    assembled (s .mode) (s .combiner) (s .rgba) (s .memory) (s .shade-alpha) (onesOf (s .mask)) (s .coverage)
+    assembled (s .mode) (s .combiner) (s .rgba) (s .memory) (s .shade-alpha) (s .count) (s .coverage)
     (d .decode-mux .ensures) (sp .input .ensures) (sm .input2 .ensures) (fa .factor-a .ensures) (fb .factor-b .ensures)
-    (stands .stands-alone .ensures ∙ (λ i. alone (s .mode) (s .rgba .a) (n .ones .ensures i) (Known (s .coverage)))) (c .in-bytes .ensures)
+    (stands .stands-alone .ensures) (c .in-bytes .ensures)
 
 pub blend-spec : {M : Type 1} → statement M
-blend-spec = tie.close (tie.spec decode-mux-requires input-requires input-requires-2 factor-a-requires factor-b-requires ones-requires stands-alone-requires in-bytes-requires returns)
+blend-spec = tie.close (tie.spec decode-mux-requires input-requires input-requires-2 factor-a-requires factor-b-requires stands-alone-requires in-bytes-requires returns)

@@ -3,7 +3,6 @@ use borrow.Author.Needs.{needs}
 use borrow.Author.Tests.{not-true, not-false}
 use mathlib.Core.Path.{sym, _∙_}
 use mathlib.Core.Bool.{cond}
-use Rattle.num_bits.specs.Ones.{onesOf}
 use Rattle.blender.specs.declared.Joined.the-variants.{Fallback, Stored}
 use Rattle.blender.specs.Known.{colorKnown}
 use Rattle.blender.specs.Blend.{orZero, blendOf}
@@ -22,9 +21,9 @@ unfolding joined
 returns c =
     let a = c .before .before .before .before .args in
     let s = a .source in
-    let bytes = blendOf (a .mode) (a .combiner) (s .color) (orZeros (a .memory)) (s .«shade_alpha») (onesOf (s .mask)) (orZero (a .coverage)) in
+    let bytes = blendOf (a .mode) (a .combiner) (s .color) (orZeros (a .memory)) (s .«shade_alpha») (s .count) (orZero (a .coverage)) in
     let k = c .before .before .is-known .ensures in
-    let no = sym (c .before .color-known .ensures ∙ (λ i. colorKnown (a .mode) (s .color .a) (onesOf (s .mask)) (a .coverage) (k i))) ∙ not-true _ (c .if1 .taken) in
+    let no = sym (c .before .color-known .ensures ∙ (λ i. colorKnown (a .mode) (s .color .a) (s .count) (a .coverage) (k i))) ∙ not-true _ (c .if1 .taken) in
     λ i. cond (sym no i) (Stored (bytes .r) (bytes .g) (bytes .b) (bytes .a)) Fallback
 
 color-or-zeros-requires : tie.Need-color-or-zeros-requires
@@ -43,10 +42,10 @@ returns-2 c =
     let a = e .before .before .before .before .args in
     let s = a .source in
     let k = e .before .before .is-known .ensures in
-    let yes = sym (e .before .color-known .ensures ∙ (λ i. colorKnown (a .mode) (s .color .a) (onesOf (s .mask)) (a .coverage) (k i))) ∙ not-false _ (e .if1 .left) in
+    let yes = sym (e .before .color-known .ensures ∙ (λ i. colorKnown (a .mode) (s .color .a) (s .count) (a .coverage) (k i))) ∙ not-false _ (e .if1 .left) in
     let under = c .before .before .color-or-zeros .ensures in
     let samples = c .before .coverage-or-zero .ensures in
-    let b = c .blend .ensures ∙ (λ i. blendOf (a .mode) (a .combiner) (s .color) (under i) (s .«shade_alpha») (onesOf (s .mask)) (samples i)) in
+    let b = c .blend .ensures ∙ (λ i. blendOf (a .mode) (a .combiner) (s .color) (under i) (s .«shade_alpha») (s .count) (samples i)) in
     λ i. cond (sym yes i) (Stored (b i .r) (b i .g) (b i .b) (b i .a)) Fallback
 
 pub blend-known-spec : {M : Type 1} → statement M

@@ -1,7 +1,6 @@
 -- `step` meets its contract: the three parts of the rules, put together. Assumes nothing.
 use mathlib.Core.Path.{sym, ap, subst, _∙_}
 use Prim.Native.Nat.{_≤_}
-use Rattle.num_bits.specs.Ones.{onesOf}
 use Rattle.blender.specs.declared.Coverage.{Coverage}
 use Rattle.blender.specs.Blend.{orZero}
 use Rattle.frame_pixel.specs.Rules.{ruleF5, coverageAfter, assembled, pixelStep}
@@ -29,7 +28,7 @@ returns c =
     let n = c .before in
     let a = n .before .before .before .args in
     let color = n .before .color-after .ensures in
-    let coverage = n .next-coverage .ensures ∙ ap (ruleF5 (a .mode) (onesOf (a .source .mask))) (n .before .before .coverage-of .ensures) in
+    let coverage = n .next-coverage .ensures ∙ ap (ruleF5 (a .mode) (a .source .count)) (n .before .before .coverage-of .ensures) in
     c .assemble .ensures ∙ (λ i. assembled (color i .known) (color i .colors) (coverage i) (a .bytes .coverage))
 
 pub step-spec : {M : Type 1} → statement M

@@ -2,10 +2,7 @@
 use mathlib.Core.Path.{ap, _∙_}
 use native.Mathlib.Omega.{arith}
 use borrow.Author.Needs.{needs}
-use Rattle.num_bits.proofs.Masks.{ones-full}
-use Rattle.blender.specs.declared.Coverage.the-variants.{Unknown, Known}
 use Rattle.frame_pixel.specs.Full.{isFull}
-use Rattle.frame_pixel.specs.Rules.{ruleF5}
 use Rattle.frame_pixel.proofs.full.full_of.Statement.{statement}
 use Rattle.frame_pixel.proofs.full.full_of.Tie as tie
 
@@ -37,14 +34,13 @@ returns : tie.Need-returns
 returns c =
     let n = c .before in
     let k = n .before .before in
-    let mode = k .before .before .before .before .before .args .mode in
     record {
       layered = k .before .before .before .before .layered .ensures;
       own = k .before .before .before .own-colors .ensures;
       layer = k .before .before .layer-of .ensures;
       sure = k .before .opaque .ensures;
-      fills = n .before .is-full .ensures ∙ ap isFull (k .next-coverage .ensures ∙ (λ i. ruleF5 mode (ones-full i) (Known 0)));
-      settles = c .is-full2 .ensures ∙ ap isFull (n .next-coverage2 .ensures ∙ (λ i. ruleF5 mode (ones-full i) Unknown));
+      fills = n .before .is-full .ensures ∙ ap isFull (k .next-coverage .ensures);
+      settles = c .is-full2 .ensures ∙ ap isFull (n .next-coverage2 .ensures);
     }
 
 pub full-of-spec : {M : Type 1} → statement M
