@@ -22,6 +22,7 @@ void check_at(const char *file, int line, const char *what, uint64_t got, uint64
 
 /* The recorded answers of the original, asked through the header (recorded.c). */
 void check_recorded_calls(const char *path);
+void check_counted_calls(const char *path);
 void check_recorded_lists(const char *path);
 
 #endif

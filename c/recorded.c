@@ -1,6 +1,7 @@
 /*
  * Asks the library, through the header, what the Rust original was asked before: the single calls of crates/replay/stdin, and the lists of draws, emitted pixels and word
- * reads of crates/replay_lists/stdin. docs/replay.md says how they were recorded, oracle/README.md how a line is laid out. Floats agree if they are equal or both NaN.
+ * reads of crates/replay_lists/stdin. A call of c/counts.txt has the number of a pixel's samples in place of their mask, and is asked with every mask of so many ones.
+ * docs/replay.md says how they were recorded, oracle/README.md how a line is laid out. Floats agree if they are equal or both NaN.
  * Valid as C11 and as C++11.
  */
 #include "check.h"
@@ -320,21 +321,21 @@ static void strict_color(void) {
 
 static void destination(void) {
     wb_mode m = mode();
-    uint8_t count = byte();
+    uint8_t mask = byte();
     uint8_t memory = byte();
     answers();
-    same_answer(wb_destination(m, count, memory));
+    same_answer(wb_destination(m, mask, memory));
 }
 
 static void color_known(void) {
     wb_mode m = mode();
     float alpha = real();
-    uint8_t count = byte();
+    uint8_t mask = byte();
     bool known = flag();
     uint8_t coverage = byte();
     bool memory_rgb = flag();
     answers();
-    same_answer(wb_color_known(m, alpha, count, known, coverage, memory_rgb));
+    same_answer(wb_color_known(m, alpha, mask, known, coverage, memory_rgb));
 }
 
 static void blend(void) {
@@ -343,10 +344,10 @@ static void blend(void) {
     wb_rgba pixel = rgba();
     wb_rgba memory = rgba();
     float shade_alpha = real();
-    uint8_t count = byte();
+    uint8_t mask = byte();
     uint8_t coverage = byte();
     answers();
-    same_answer(wb_blend(m, k, pixel, memory, shade_alpha, count, coverage));
+    same_answer(wb_blend(m, k, pixel, memory, shade_alpha, mask, coverage));
 }
 
 static void pack_color(void) {
@@ -399,9 +400,10 @@ static void encode(void) {
 
 /* ---- lists of draws, emitted pixels and word reads */
 
-/* Room for a slice of bytes and for a list of words; a line that needs more is told. */
+/* Room for a slice of bytes, for a list of words and for a line of c/counts.txt; a line that needs more is told. */
 #define SLICE 512
 #define LIST 4096
+#define LINE 1024
 
 typedef struct {
     uint8_t at[SLICE];
@@ -589,6 +591,46 @@ static void read_word(void) {
                              big_endian));
 }
 
+/* ---- single calls by a count */
+
+static int ones(int mask) { return mask == 0 ? 0 : (mask & 1) + ones(mask >> 1); }
+
+/* Asks the line with every mask of as many ones as its word at that place says. No mask has more than eight, and such a line was turned away. */
+static void with_masks(int place, void (*ask)(void)) {
+    char line[LINE];
+    size_t length = room(strcspn(at, "\n"), LINE - 1);
+    const char *end = at + length;
+    memcpy(line, at, length);
+    line[length] = '\0';
+    char *samples = line + 9 * place; /* a space and eight digits for each word */
+    at = samples;
+    int count = byte();
+    for (int mask = 0; mask < 256; mask++) {
+        if (ones(mask) == count) {
+            char digits[10];
+            snprintf(digits, sizeof digits, " %08x", (unsigned)mask);
+            memcpy(samples, digits, 9);
+            at = line;
+            ask();
+        }
+    }
+    if (count > 8) {
+        wb_answer refused = {WB_REFUSED, 0};
+        at = line + strcspn(line, "=");
+        at++;
+        same_answer(refused);
+    }
+    if (*at != '\0') {
+        broken("the line goes on");
+    }
+    at = end;
+}
+
+/* Behind the mode's 21 words; its alpha; or the combiner's 25, two colours and the shade's alpha. */
+static void counted_destination(void) { with_masks(21, destination); }
+static void counted_color_known(void) { with_masks(22, color_known); }
+static void counted_blend(void) { with_masks(55, blend); }
+
 /* ---- files */
 
 typedef struct {
@@ -605,6 +647,8 @@ static call calls[] = {
     CALL(destination), CALL(color_known), CALL(blend),
     CALL(pack_color), CALL(pack_depth), CALL(supported), CALL(pixel_bytes), CALL(encode),
 };
+
+static call counted_calls[] = {{"destination", counted_destination, 0}, {"color_known", counted_color_known, 0}, {"blend", counted_blend, 0}};
 
 static call list_calls[] = {CALL(frame), CALL(draw), {"read", read_word, 0}, CALL(mask), CALL(masks)};
 
@@ -655,5 +699,7 @@ static void ask_all(const char *path, call *known, size_t count) {
 }
 
 void check_recorded_calls(const char *path) { ask_all(path, calls, sizeof calls / sizeof calls[0]); }
+
+void check_counted_calls(const char *path) { ask_all(path, counted_calls, sizeof counted_calls / sizeof counted_calls[0]); }
 
 void check_recorded_lists(const char *path) { ask_all(path, list_calls, sizeof list_calls / sizeof list_calls[0]); }

@@ -14,5 +14,5 @@ flags=(-Wall -Wextra -Wpedantic -Werror -O1 -I ../include)
 gcc -std=c11 "${flags[@]}" -o "$room/as_c" test.c recorded.c "$library" -lm
 g++ -std=c++11 "${flags[@]}" -x c++ -o "$room/as_cpp" test.c recorded.c -x none "$library" -lm
 for program in as_cpp as_c; do
-    "$room/$program" ../crates/replay/stdin ../crates/replay_lists/stdin
+    "$room/$program" ../crates/replay/stdin counts.txt ../crates/replay_lists/stdin
 done

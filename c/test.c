@@ -258,42 +258,43 @@ static void combiner(void) {
 /* ---- the blender */
 
 static void blender(void) {
-    /* rows 4 and 5 of the table: count 5, memory 4 */
+    /* rows 4 and 5 of the table: five samples, memory 4 */
+    const uint8_t five = 0x6d, all = 0xff;
     wb_mode forced = plain_mode(), smooth = plain_mode();
     forced.force_blend = true;
     smooth.antialias = true;
-    CHECK_ANSWER(wb_destination(forced, 5, 4), 0, 7);
-    CHECK_ANSWER(wb_destination(smooth, 5, 4), 0, 4);
+    CHECK_ANSWER(wb_destination(forced, five, 4), 0, 7);
+    CHECK_ANSWER(wb_destination(smooth, five, 4), 0, 4);
     forced.cvg_dst = smooth.cvg_dst = 1;
-    CHECK_ANSWER(wb_destination(forced, 5, 4), 0, 1);
-    CHECK_ANSWER(wb_destination(smooth, 5, 4), 0, 1);
+    CHECK_ANSWER(wb_destination(forced, five, 4), 0, 1);
+    CHECK_ANSWER(wb_destination(smooth, five, 4), 0, 1);
     forced.cvg_dst = 2;
-    CHECK_ANSWER(wb_destination(forced, 5, 4), 0, 7);
+    CHECK_ANSWER(wb_destination(forced, five, 4), 0, 7);
     forced.cvg_dst = 3;
-    CHECK_ANSWER(wb_destination(forced, 5, 4), 0, 4);
+    CHECK_ANSWER(wb_destination(forced, five, 4), 0, 4);
 
     /* the pixel by its alpha, over memory by the rest */
     forced = plain_mode();
     forced.force_blend = true;
     forced.blender_mux = mux(0, 0, 1, 0);
-    CHECK_ANSWER(wb_color_known(forced, 0.5f, 8, true, 7, false), 0, 0);
-    CHECK_ANSWER(wb_color_known(forced, 0.5f, 8, true, 7, true), 0, 1);
-    CHECK_ANSWER(wb_color_known(forced, 1.0f, 8, true, 7, false), 0, 1); /* an opaque one hides memory */
-    CHECK_ANSWER(wb_color_known(plain_mode(), 0.5f, 8, false, 0, false), 0, 1);
+    CHECK_ANSWER(wb_color_known(forced, 0.5f, all, true, 7, false), 0, 0);
+    CHECK_ANSWER(wb_color_known(forced, 0.5f, all, true, 7, true), 0, 1);
+    CHECK_ANSWER(wb_color_known(forced, 1.0f, all, true, 7, false), 0, 1); /* an opaque one hides memory */
+    CHECK_ANSWER(wb_color_known(plain_mode(), 0.5f, all, false, 0, false), 0, 1);
 
     /* row 10: unblended 0.5 becomes byte 128 */
     wb_combiner k = only(WB_COLOR_ONE, WB_ALPHA_ONE);
-    CHECK_ANSWER(wb_blend(plain_mode(), k, grey(0.5f), grey(0.0f), 1.0f, 8, 7), 0, 0xff808080);
+    CHECK_ANSWER(wb_blend(plain_mode(), k, grey(0.5f), grey(0.0f), 1.0f, all, 7), 0, 0xff808080);
     /* red by a quarter of alpha over green: 0.25 and 0.75 */
-    CHECK_ANSWER(wb_blend(forced, k, rgba(1.0f, 0.0f, 0.0f, 0.25f), rgba(0.0f, 1.0f, 0.0f, 1.0f), 1.0f, 8, 7), 0, 0x4000bf40);
+    CHECK_ANSWER(wb_blend(forced, k, rgba(1.0f, 0.0f, 0.0f, 0.25f), rgba(0.0f, 1.0f, 0.0f, 1.0f), 1.0f, all, 7), 0, 0x4000bf40);
     /* blend colour by shade alpha, and memory by coverage / 8: 0.5 * 0.5 + 1.0 * 0.5 */
     forced.blender_mux = mux(2, 2, 1, 1);
     k.blend = grey(0.5f);
-    CHECK_ANSWER(wb_blend(forced, k, grey(0.0f), grey(1.0f), 0.5f, 8, 4), 0, 0xffbfbfbf);
+    CHECK_ANSWER(wb_blend(forced, k, grey(0.0f), grey(1.0f), 0.5f, all, 4), 0, 0xffbfbfbf);
     /* fog by fog alpha, and blend colour by 0 */
     forced.blender_mux = mux(3, 1, 2, 3);
     k.fog = rgba(1.0f, 0.0f, 1.0f, 0.5f);
-    CHECK_ANSWER(wb_blend(forced, k, grey(0.0f), grey(1.0f), 0.5f, 8, 4), 0, 0xff800080);
+    CHECK_ANSWER(wb_blend(forced, k, grey(0.0f), grey(1.0f), 0.5f, all, 4), 0, 0xff800080);
 }
 
 /* ---- words */
@@ -352,16 +353,18 @@ static void refused_calls(void) {
     wb_combiner k = only(WB_COLOR_ONE, WB_ALPHA_ONE);
     wb_rgba white = grey(1.0f);
     CHECK_ANSWER(wb_destination(m, 0, 4), WB_REFUSED, 0);
-    CHECK_ANSWER(wb_destination(m, 9, 4), WB_REFUSED, 0);
-    CHECK_ANSWER(wb_destination(m, 8, 8), WB_REFUSED, 0);
-    CHECK_ANSWER(wb_destination(m, 8, 7), 0, 7);
+    CHECK_ANSWER(wb_destination(m, 0xff, 8), WB_REFUSED, 0);
+    CHECK_ANSWER(wb_destination(m, 0xff, 7), 0, 7);
     CHECK_ANSWER(wb_color_known(m, 1.0f, 0, true, 0, true), WB_REFUSED, 0);
-    CHECK_ANSWER(wb_color_known(m, 1.0f, 9, true, 0, true), WB_REFUSED, 0);
-    CHECK_ANSWER(wb_color_known(m, 1.0f, 8, true, 8, true), WB_REFUSED, 0);
-    CHECK_ANSWER(wb_color_known(m, 1.0f, 8, false, 8, true), 0, 1); /* an unknown coverage is not looked at */
+    CHECK_ANSWER(wb_color_known(m, 1.0f, 0xff, true, 8, true), WB_REFUSED, 0);
+    CHECK_ANSWER(wb_color_known(m, 1.0f, 0xff, false, 8, true), 0, 1); /* an unknown coverage is not looked at */
     CHECK_ANSWER(wb_blend(m, k, white, white, 1.0f, 0, 0), WB_REFUSED, 0);
-    CHECK_ANSWER(wb_blend(m, k, white, white, 1.0f, 9, 0), WB_REFUSED, 0);
-    CHECK_ANSWER(wb_blend(m, k, white, white, 1.0f, 8, 8), WB_REFUSED, 0);
+    CHECK_ANSWER(wb_blend(m, k, white, white, 1.0f, 0xff, 8), WB_REFUSED, 0);
+    for (int mask = 1; mask < 256; mask++) { /* every other mask is taken */
+        CHECK(wb_destination(m, (uint8_t)mask, 7).number, 0);
+        CHECK(wb_color_known(m, 1.0f, (uint8_t)mask, true, 7, true).number, 0);
+        CHECK(wb_blend(m, k, white, white, 1.0f, (uint8_t)mask, 7).number, 0);
+    }
     CHECK_ANSWER(wb_pack_color(0xffffffff, 8, 0), WB_REFUSED, 0);
     CHECK_ANSWER(wb_supported(0, 4, 320, true), WB_REFUSED, 0);
     CHECK_ANSWER(wb_supported(0, 2, 0, false), WB_REFUSED, 0); /* a width counts, though the answer does not turn on it */
@@ -963,8 +966,8 @@ static void read_run(void) {
 }
 
 int main(int count, char **words) {
-    if (count != 3) {
-        fprintf(stderr, "usage: %s CALLS LISTS, the recorded answers\n", words[0]);
+    if (count != 4) {
+        fprintf(stderr, "usage: %s CALLS COUNTS LISTS, the recorded answers\n", words[0]);
         return 2;
     }
     selectors();
@@ -982,7 +985,8 @@ int main(int count, char **words) {
     refused_reads();
     read_run();
     check_recorded_calls(words[1]);
-    check_recorded_lists(words[2]);
+    check_counted_calls(words[2]);
+    check_recorded_lists(words[3]);
     if (failures > 0) {
         fprintf(stderr, "c: %lu of %lu checks failed\n", failures, checks);
         return 1;

@@ -183,7 +183,7 @@ typedef struct {
     float shade_alpha;
 } wb_fragment;
 
-/* The number of a single-pixel call that is turned away for its arguments: a count outside 1 to 8, a coverage above 7, a width outside 1 to 1024, a siz
+/* The number of a single-pixel call that is turned away for its arguments: a mask of 0, a coverage above 7, a width outside 1 to 1024, a siz
  * above 3 or a pixel above 1,048,575, as far as the call takes them. */
 #define WB_REFUSED 11u
 
@@ -225,16 +225,16 @@ wb_color_answer wb_combiner_color(wb_combiner combiner, wb_rgba shade);
 /* The word of a combiner that gives one constant colour, each channel of it empty or full. */
 wb_strict_answer wb_strict_color(wb_combiner combiner);
 
-/* ---- the blender */
+/* ---- the blender. A pixel's eight samples are the bits of its mask; how many of them are 1 is what counts here. */
 
 /* The coverage that memory keeps. */
-wb_answer wb_destination(wb_mode mode, uint8_t count, uint8_t memory);
+wb_answer wb_destination(wb_mode mode, uint8_t mask, uint8_t memory);
 
 /* Whether a pixel's colour can be told. The coverage is looked at only where it is known. */
-wb_answer wb_color_known(wb_mode mode, float alpha, uint8_t count, bool known, uint8_t coverage, bool memory_rgb);
+wb_answer wb_color_known(wb_mode mode, float alpha, uint8_t mask, bool known, uint8_t coverage, bool memory_rgb);
 
 /* The four bytes of a pixel blended with memory. */
-wb_answer wb_blend(wb_mode mode, wb_combiner combiner, wb_rgba rgba, wb_rgba memory, float shade_alpha, uint8_t count, uint8_t coverage);
+wb_answer wb_blend(wb_mode mode, wb_combiner combiner, wb_rgba rgba, wb_rgba memory, float shade_alpha, uint8_t mask, uint8_t coverage);
 
 /* ---- packing. rgba holds four bytes, red lowest. */
 

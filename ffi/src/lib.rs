@@ -204,11 +204,11 @@ unsafe extern "C" {
     pub safe fn wb_combiner_color(combiner: wb_combiner, shade: wb_rgba) -> wb_color_answer;
     pub safe fn wb_strict_color(combiner: wb_combiner) -> wb_strict_answer;
 
-    pub safe fn wb_destination(mode: wb_mode, count: u8, memory: u8) -> wb_answer;
+    pub safe fn wb_destination(mode: wb_mode, mask: u8, memory: u8) -> wb_answer;
     pub safe fn wb_color_known(
         mode: wb_mode,
         alpha: f32,
-        count: u8,
+        mask: u8,
         known: bool,
         coverage: u8,
         memory_rgb: bool,
@@ -219,7 +219,7 @@ unsafe extern "C" {
         rgba: wb_rgba,
         memory: wb_rgba,
         shade_alpha: f32,
-        count: u8,
+        mask: u8,
         coverage: u8,
     ) -> wb_answer;
 

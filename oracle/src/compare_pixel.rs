@@ -17,10 +17,10 @@ pub fn destination(part: &Part) -> Outcome {
     let mut inputs = part.inputs();
     for cvg_dst in part.share(256) {
         for bits in 0..4 {
-            for count in 0..=255 {
+            for mask in 0..=255 {
                 let mode = Mode { cvg_dst: cvg_dst as u8, ..with_flags(inputs.mode(), bits) };
                 for memory in 0..=255 {
-                    tally.check(Destination { mode, count, memory })?;
+                    tally.check(Destination { mode, mask, memory })?;
                 }
             }
         }
@@ -31,7 +31,7 @@ pub fn destination(part: &Part) -> Outcome {
 /// Alphas on both sides of 1.0, where a pixel is opaque.
 const ALPHAS: [u32; 6] = [0x3f80_0000, 0x3f7f_ffff, 0x3f80_0001, 0x7fc0_0000, 0x7f80_0000, 0xbf80_0000];
 
-/// Every mux, flag, count and coverage, absent coverages too.
+/// Every mux, flag, number of ones and coverage, absent coverages too.
 fn known_whole(part: &Part, tally: &mut Tally) -> Result<(), String> {
     let mut inputs = part.inputs();
     for mux in part.share(1 << 16) {
@@ -39,11 +39,12 @@ fn known_whole(part: &Part, tally: &mut Tally) -> Result<(), String> {
             let memory_rgb = bits & 4 != 0;
             let mode = Mode { blender_mux: mux as u16, ..with_flags(inputs.mode(), bits) };
             for alpha in ALPHAS.map(f32::from_bits) {
-                for count in 1..=8 {
+                for ones in 1..=8 {
+                    let mask = inputs.mask_of(ones);
                     let absent = inputs.byte();
-                    tally.check(ColorKnown { mode, alpha, count, known: false, coverage: absent, memory_rgb })?;
+                    tally.check(ColorKnown { mode, alpha, mask, known: false, coverage: absent, memory_rgb })?;
                     for coverage in 0..8 {
-                        tally.check(ColorKnown { mode, alpha, count, known: true, coverage, memory_rgb })?;
+                        tally.check(ColorKnown { mode, alpha, mask, known: true, coverage, memory_rgb })?;
                     }
                 }
             }
@@ -57,7 +58,7 @@ pub fn any_known(inputs: &mut Inputs) -> ColorKnown {
     ColorKnown {
         mode: inputs.mode(),
         alpha: inputs.float(temper),
-        count: inputs.count(),
+        mask: inputs.mask(),
         known: inputs.flag(),
         coverage: inputs.coverage(),
         memory_rgb: inputs.flag(),
@@ -68,9 +69,9 @@ pub fn color_known(part: &Part) -> Outcome {
     let mut tally = Tally::default();
     let mut inputs = part.inputs();
     known_whole(part, &mut tally)?;
-    for count in 0..=255 {
+    for mask in 0..=255 {
         for coverage in 0..=255 {
-            tally.check(ColorKnown { count, coverage, ..any_known(&mut inputs) })?;
+            tally.check(ColorKnown { mask, coverage, ..any_known(&mut inputs) })?;
         }
     }
     for _ in part.tries(10_000_000) {
@@ -88,12 +89,12 @@ pub fn any_blend(inputs: &mut Inputs, temper: Temper) -> Blend {
         rgba: inputs.rgba(temper),
         memory: inputs.rgba(temper),
         shade_alpha: inputs.float(temper),
-        count: inputs.count(),
+        mask: inputs.mask(),
         coverage: inputs.coverage(),
     }
 }
 
-/// Every mux and flag, and pixels at random.
+/// Every mux and flag, every mask and coverage, and pixels at random.
 pub fn blend(part: &Part) -> Outcome {
     let mut tally = Tally::default();
     let mut inputs = part.inputs();
@@ -103,6 +104,12 @@ pub fn blend(part: &Part) -> Outcome {
             let mut call = any_blend(&mut inputs, temper);
             call.mode = Mode { blender_mux: mux as u16, ..with_flags(call.mode, bits) };
             tally.check(call)?;
+        }
+    }
+    for mask in 0..=255 {
+        for coverage in 0..=255 {
+            let temper = inputs.temper();
+            tally.check(Blend { mask, coverage, ..any_blend(&mut inputs, temper) })?;
         }
     }
     for _ in part.tries(16_000_000) {

@@ -175,13 +175,29 @@ impl Inputs {
 
     // Whole numbers near their limits
 
-    /// Mostly 1 to 8.
-    pub fn count(&mut self) -> u8 {
+    /// A mask with so many ones, up to 8, at any places. A generator of its own puts them there: what is drawn next does not
+    /// turn on how many they are.
+    pub fn mask_of(&mut self, ones: u32) -> u8 {
+        let mut places = Inputs::new(!self.state);
+        let (mut mask, mut left) = (0, ones);
+        for place in 0..8 {
+            if places.below(8 - place) < left {
+                mask |= 1 << place;
+                left -= 1;
+            }
+        }
+        mask
+    }
+
+    /// Mostly with 1 to 8 ones, each number as often.
+    pub fn mask(&mut self) -> u8 {
         match self.below(32) {
             0 => self.byte(),
-            1 => 0,
-            2 => 9,
-            _ => 1 + self.below(8) as u8,
+            1 | 2 => 0,
+            _ => {
+                let ones = 1 + self.below(8);
+                self.mask_of(ones)
+            }
         }
     }
 

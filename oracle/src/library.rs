@@ -72,12 +72,12 @@ macro_rules! interface {
             CombinerNew combiner_new = wb_combiner_new(uniform: Uniform, mode: Mode) -> CombinerAnswer;
             CombinerColor combiner_color = wb_combiner_color(combiner: Combiner, shade: Rgba) -> ColorAnswer;
             StrictColor strict_color = wb_strict_color(combiner: Combiner) -> StrictAnswer;
-            Destination destination = wb_destination(mode: Mode, count: u8, memory: u8) -> Answer;
+            Destination destination = wb_destination(mode: Mode, mask: u8, memory: u8) -> Answer;
             ColorKnown color_known = wb_color_known(
-                mode: Mode, alpha: f32, count: u8, known: bool, coverage: u8, memory_rgb: bool
+                mode: Mode, alpha: f32, mask: u8, known: bool, coverage: u8, memory_rgb: bool
             ) -> Answer;
             Blend blend = wb_blend(
-                mode: Mode, combiner: Combiner, rgba: Rgba, memory: Rgba, shade_alpha: f32, count: u8, coverage: u8
+                mode: Mode, combiner: Combiner, rgba: Rgba, memory: Rgba, shade_alpha: f32, mask: u8, coverage: u8
             ) -> Answer;
             PackColor pack_color = wb_pack_color(rgba: u32, coverage: u8, dither: u8) -> Answer;
             PackDepth pack_depth = wb_pack_depth(depth: f32) -> u32;

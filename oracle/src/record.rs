@@ -65,7 +65,7 @@ fn pixels(lines: &mut Vec<String>, inputs: &mut Inputs) {
     sample(lines, 80, || {
         let mut mode = inputs.mode();
         mode.cvg_dst = inputs.below(5) as u8;
-        Destination { mode, count: inputs.count(), memory: inputs.coverage() }
+        Destination { mode, mask: inputs.mask(), memory: inputs.coverage() }
     });
     sample(lines, 120, || any_known(inputs));
     sample(lines, 160, || {
@@ -111,7 +111,7 @@ fn examples(lines: &mut Vec<String>) {
     }
     for (cvg_dst, force_blend, antialias) in [(0, true, false), (0, false, true), (1, true, true)] {
         let mode = Mode { cvg_dst, force_blend, antialias, ..Mode::default() };
-        lines.push(line(&Destination { mode, count: 5, memory: 4 }));
+        lines.push(line(&Destination { mode, mask: 0b0110_1101, memory: 4 }));
     }
     for (value, dither) in [(5, 4), (5, 5), (250, 0)] {
         lines.push(line(&PackColor { rgba: value, coverage: 0, dither }));

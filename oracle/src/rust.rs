@@ -231,7 +231,7 @@ pub fn emitted(shape: &writeback::Shape, (width, height): (u32, u32)) -> Vec<Fra
 /// What a single-pixel call takes of the things that number 11 limits.
 #[derive(Default)]
 struct Limited {
-    count: Option<u8>,
+    mask: Option<u8>,
     coverage: Option<u8>,
     width: Option<u32>,
     siz: Option<u8>,
@@ -240,7 +240,7 @@ struct Limited {
 
 impl Limited {
     fn refused(&self) -> bool {
-        self.count.is_some_and(|count| !(1..=8).contains(&count))
+        self.mask == Some(0)
             || self.coverage.is_some_and(|coverage| coverage > 7)
             || self.width.is_some_and(|width| !(1..=1024).contains(&width))
             || self.siz.is_some_and(|siz| siz > 3)
@@ -340,17 +340,22 @@ pub fn strict_color(combiner: Combiner) -> StrictAnswer {
     StrictAnswer { some: word.is_some(), word: word.unwrap_or_default() }
 }
 
-pub fn destination(mode: Mode, count: u8, memory: u8) -> Answer {
-    let limited = Limited { count: Some(count), coverage: Some(memory), ..Limited::default() };
-    limited.or(|| u32::from(writeback::destination(render_mode(mode), count, memory)))
+/// What the original takes for a mask: its number of ones.
+fn samples(mask: u8) -> u8 {
+    mask.count_ones() as u8
 }
 
-pub fn color_known(mode: Mode, alpha: f32, count: u8, known: bool, coverage: u8, memory_rgb: bool) -> Answer {
+pub fn destination(mode: Mode, mask: u8, memory: u8) -> Answer {
+    let limited = Limited { mask: Some(mask), coverage: Some(memory), ..Limited::default() };
+    limited.or(|| u32::from(writeback::destination(render_mode(mode), samples(mask), memory)))
+}
+
+pub fn color_known(mode: Mode, alpha: f32, mask: u8, known: bool, coverage: u8, memory_rgb: bool) -> Answer {
     let coverage = known.then_some(coverage);
-    let limited = Limited { count: Some(count), coverage, ..Limited::default() };
+    let limited = Limited { mask: Some(mask), coverage, ..Limited::default() };
     limited.or(|| {
         let mode = render_mode(mode);
-        u32::from(writeback::color_known(mode, alpha, count, coverage, memory_rgb))
+        u32::from(writeback::color_known(mode, alpha, samples(mask), coverage, memory_rgb))
     })
 }
 
@@ -360,15 +365,15 @@ pub fn blend(
     rgba: Rgba,
     memory: Rgba,
     shade_alpha: f32,
-    count: u8,
+    mask: u8,
     coverage: u8,
 ) -> Answer {
-    let limited = Limited { count: Some(count), coverage: Some(coverage), ..Limited::default() };
+    let limited = Limited { mask: Some(mask), coverage: Some(coverage), ..Limited::default() };
     let (rgba, memory) = (floats(rgba), floats(memory));
     limited.or(|| {
         let mode = render_mode(mode);
         let parts = parts(combiner);
-        u32::from_le_bytes(writeback::blend(mode, parts, rgba, memory, shade_alpha, count, coverage))
+        u32::from_le_bytes(writeback::blend(mode, parts, rgba, memory, shade_alpha, samples(mask), coverage))
     })
 }
 
@@ -409,7 +414,7 @@ pub fn encode(
     big_endian: bool,
 ) -> Answer {
     let limited =
-        Limited { count: None, coverage: Some(coverage), width: Some(width), siz: Some(siz), pixel: Some(pixel) };
+        Limited { mask: None, coverage: Some(coverage), width: Some(width), siz: Some(siz), pixel: Some(pixel) };
     let encoding = if big_endian { FramebufferEncoding::BigEndian } else { FramebufferEncoding::Native };
     limited.or(|| {
         let bytes = coherence::writer(fmt, siz, width, depth).encode(

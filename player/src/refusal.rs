@@ -42,8 +42,8 @@ const REASONS: [(Refusal, &str); 13] = [
     (Refusal::UNKNOWN, "the colour is unmarked, or the coverage is unmarked and siz is 2"),
     (
         Refusal::ARGUMENTS,
-        "a single-pixel call has a count outside 1 to 8, a coverage above 7, a width outside 1 to 1,024, a siz above 3 or \
-         a pixel above 1,048,575",
+        "a single-pixel call has a mask of 0, a coverage above 7, a width outside 1 to 1,024, a siz above 3 or a pixel \
+         above 1,048,575",
     ),
     (Refusal::WORDS, "the words have not two bytes for each number"),
     (Refusal::SLOTS, "the slices for pixels and masks have not the same length"),

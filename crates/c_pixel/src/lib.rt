@@ -24,24 +24,24 @@ use writeback_pixel::PixelBytes;
 
 // ---- the blender: writeback.rs
 
-pub fn destination(mode: Mode, count: u8, memory: u8) -> Answer
-    ensures { λ r. ⌜ r ≡ answerOf same (destinationCall (modeOf mode) count memory) ⌝ }
+pub fn destination(mode: Mode, mask: u8, memory: u8) -> Answer
+    ensures { λ r. ⌜ r ≡ answerOf same (destinationCall (modeOf mode) mask memory) ⌝ }
 {
-    stored(writeback_pixel::destination(render_mode(mode), count, memory))
+    stored(writeback_pixel::destination(render_mode(mode), mask, memory))
 }
 
 pub fn color_known(
     mode: Mode,
     alpha: f32,
-    count: u8,
+    mask: u8,
     known: bool,
     coverage: u8,
     memory_rgb: bool,
 ) -> Answer
-    ensures { λ r. ⌜ r ≡ answerOf bit (colorKnownCall (modeOf mode) alpha count (coverageOf known coverage) «memory_rgb») ⌝ }
+    ensures { λ r. ⌜ r ≡ answerOf bit (colorKnownCall (modeOf mode) alpha mask (coverageOf known coverage) «memory_rgb») ⌝ }
 {
     let under = memory_coverage(known, coverage);
-    yes_or_no(writeback_pixel::color_known(render_mode(mode), alpha, count, under, memory_rgb))
+    yes_or_no(writeback_pixel::color_known(render_mode(mode), alpha, mask, under, memory_rgb))
 }
 
 pub fn blend(
@@ -50,10 +50,10 @@ pub fn blend(
     rgba: Rgba,
     memory: Rgba,
     shade_alpha: f32,
-    count: u8,
+    mask: u8,
     coverage: u8,
 ) -> Answer
-    ensures { λ r. ⌜ r ≡ answerOf fourBytes (blendCall (modeOf mode) (combinerFrom combiner) rgba memory «shade_alpha» count coverage) ⌝ }
+    ensures { λ r. ⌜ r ≡ answerOf fourBytes (blendCall (modeOf mode) (combinerFrom combiner) rgba memory «shade_alpha» mask coverage) ⌝ }
 {
     let k = combiner_of(combiner);
     blended(writeback_pixel::blend(
@@ -62,7 +62,7 @@ pub fn blend(
         rgba,
         memory,
         shade_alpha,
-        count,
+        mask,
         coverage,
     ))
 }

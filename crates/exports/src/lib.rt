@@ -158,24 +158,24 @@ pub extern "C" fn wb_strict_color(combiner: Parts) -> StrictAnswer
 // ---- the blender: writeback.rs
 
 #[no_mangle]
-pub extern "C" fn wb_destination(mode: Mode, count: u8, memory: u8) -> Answer
-    ensures { λ r. ⌜ r ≡ answerOf same (destinationCall (modeOf mode) count memory) ⌝ }
+pub extern "C" fn wb_destination(mode: Mode, mask: u8, memory: u8) -> Answer
+    ensures { λ r. ⌜ r ≡ answerOf same (destinationCall (modeOf mode) mask memory) ⌝ }
 {
-    c_pixel::destination(mode, count, memory)
+    c_pixel::destination(mode, mask, memory)
 }
 
 #[no_mangle]
 pub extern "C" fn wb_color_known(
     mode: Mode,
     alpha: f32,
-    count: u8,
+    mask: u8,
     known: bool,
     coverage: u8,
     memory_rgb: bool,
 ) -> Answer
-    ensures { λ r. ⌜ r ≡ answerOf bit (colorKnownCall (modeOf mode) alpha count (coverageOf known coverage) «memory_rgb») ⌝ }
+    ensures { λ r. ⌜ r ≡ answerOf bit (colorKnownCall (modeOf mode) alpha mask (coverageOf known coverage) «memory_rgb») ⌝ }
 {
-    c_pixel::color_known(mode, alpha, count, known, coverage, memory_rgb)
+    c_pixel::color_known(mode, alpha, mask, known, coverage, memory_rgb)
 }
 
 #[no_mangle]
@@ -185,12 +185,12 @@ pub extern "C" fn wb_blend(
     rgba: Rgba,
     memory: Rgba,
     shade_alpha: f32,
-    count: u8,
+    mask: u8,
     coverage: u8,
 ) -> Answer
-    ensures { λ r. ⌜ r ≡ answerOf fourBytes (blendCall (modeOf mode) (combinerFrom combiner) rgba memory «shade_alpha» count coverage) ⌝ }
+    ensures { λ r. ⌜ r ≡ answerOf fourBytes (blendCall (modeOf mode) (combinerFrom combiner) rgba memory «shade_alpha» mask coverage) ⌝ }
 {
-    c_pixel::blend(mode, combiner, rgba, memory, shade_alpha, count, coverage)
+    c_pixel::blend(mode, combiner, rgba, memory, shade_alpha, mask, coverage)
 }
 
 // ---- packing: coherence.rs

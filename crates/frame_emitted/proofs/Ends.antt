@@ -6,7 +6,7 @@ use mathlib.Core.List.{List, [], _∷_, map}
 use native.Mathlib.Omega.{arith}
 use lib.Count.{ones-le}
 use lib.ListN.{length, length-map, List·getD-eq-default}
-use Rattle.raster_edges.specs.Sample.{countOf}
+use Rattle.num_bits.specs.Ones.{onesOf}
 use Rattle.raster_pixel.specs.Emitted.{Emit}
 use Rattle.raster_pixel.proofs.Placed.{Placed}
 use Rattle.raster_emitted.specs.Masked.{maskedOf, noPixel, kth}
@@ -15,7 +15,7 @@ use Rattle.frame_draw.specs.Draw.{DrawArgs, Plan, planOf, answerBy, drawAnswer}
 use Rattle.frame_draw.proofs.Frames.{pixelsOf, plan-placed}
 use Rattle.frame_emitted.specs.Emitted.{refusedPixel, pixelOf, pixelBy, emittedAnswer}
 
-sampled : (m : ℕ) → 1 ≤ countOf m → 1 ≤ m
+sampled : (m : ℕ) → 1 ≤ onesOf m → 1 ≤ m
 sampled zero h = absurd (omega (arith, ones-le 0 0 (omega arith)))
 sampled (suc m) h = omega arith
 

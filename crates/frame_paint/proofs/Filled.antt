@@ -4,14 +4,13 @@ use mathlib.Core.Bool.{Bool, true, false, cond, _||_, not}
 use mathlib.Core.List.{List}
 use Prim.Native.Nat.{ℕ, zero, suc, _+_, _-_, _*_, _≤_, _<_}
 use native.Mathlib.Omega.{arith}
-use lib.Count.{ones, ones-step}
 use lib.ListN.{length, getD, set}
+use Rattle.num_bits.proofs.Masks.{ones-full}
 use Rattle.num_float.specs.Color.{f1}
 use Rattle.state.specs.declared.RenderMode.{RenderMode}
 use Rattle.state.specs.declared.Rgba.{Rgba}
 use Rattle.combiner.specs.declared.Combiner.{Combiner}
 use Rattle.blender.specs.declared.Coverage.the-variants.{Unknown, Known}
-use Rattle.raster_edges.specs.Sample.{countOf}
 use Rattle.frame_pixel.specs.declared.Pixel.{Pixel}
 use Rattle.frame_pixel.specs.declared.Colors.{Colors}
 use Rattle.frame_pixel.specs.declared.full.Full.{Full}
@@ -91,35 +90,16 @@ module _ (full : Full) (f : Frame) (p : ℕ) (place : p < length (f .marks)) (lo
       ∙ (λ i. frameOf (colors i) (coverages i) (set (f .marks) p (markOf known (not (unknown (fullCoverage (full .fills) (full .settles) (coverageAt x)))))))
 
 -- ---- that is a step
-none : ones 0 ≡ 0
-unfolding ones
-none = refl
-
-eight : 8 ≡ countOf 255
-eight =
-    omega (
-      arith,
-      ones-step 255,
-      ones-step 127,
-      ones-step 63,
-      ones-step 31,
-      ones-step 15,
-      ones-step 7,
-      ones-step 3,
-      ones-step 1,
-      none,
-    )
-
 module _ {mode : RenderMode} {k : Combiner} {color : Rgba} {full : Full} (o : FullOf mode k color full) (e : Enough mode full) where
   pub filled-drew :
       {n p : ℕ} {f g : Frame} → Fit n f → g ≡ row.filledAt full f p → Drew mode k n (row.fullPixel color p) f g 1
   unfolding stepFrame
   filled-drew {n} {p} {f} {g} fit h =
       let emit = emitOf p 255 color f1 in
-      let t : g ≡ stepFrame mode k f emit = h ∙ ap (putPixel f p) (full-step mode k (sourceOf emit) (pixelAt f p) (sym eight) o e (fit .sound p)) in
+      let t : g ≡ stepFrame mode k f emit = h ∙ ap (putPixel f p) (full-step mode k (sourceOf emit) (pixelAt f p) ones-full o e (fit .sound p)) in
       record {
         ran = record { state = t; count = refl };
-        fit = subst (Fit n) (sym t) (fit-step mode k emit fit (omega (arith, eight)) (omega (arith, eight)));
+        fit = subst (Fit n) (sym t) (fit-step mode k emit fit (omega arith) (omega arith));
       }
 
 -- as many as the run is long

@@ -26,7 +26,7 @@ use Rattle.frame_pixel.specs.Coloring.{colorsOf, ownColors}
 use Rattle.frame_pixel.specs.Full.{FullOf}
 use Rattle.num_float.proofs.Tests.{never, both-left, both-right}
 use Rattle.frame_pixel.proofs.Colorings.{opaque-step, unshaded-step}
-use Rattle.raster_edges.specs.Sample.{countOf}
+use Rattle.num_bits.specs.Ones.{onesOf}
 use Rattle.raster_pixel.specs.Emitted.{Emit}
 use Rattle.frame.specs.Frame.{Frame, pixelAt, putPixel}
 use Rattle.frame_paint.specs.declared.prepare.Paint.{Paint}
@@ -108,7 +108,7 @@ module _ (paint : Paint) (e : Prepared paint) (even : paint .even ≡ true) wher
       (f : Frame) (pixel mask : ℕ) (s t : Float)
       → stepFrame (paint .mode) (paint .combiner) f (emitOf pixel mask (paint .color) s) ≡ stepFrame (paint .mode) (paint .combiner) f (emitOf pixel mask (paint .color) t)
   unfolding stepFrame
-  any-shade f pixel mask s t = ap (putPixel f pixel) (any-step (countOf mask) s t (pixelAt f pixel))
+  any-shade f pixel mask s t = ap (putPixel f pixel) (any-step (onesOf mask) s t (pixelAt f pixel))
 
 -- what a paint draws is drawn with the mode and the combiner that it was made of
 pub by-paint :

@@ -9,7 +9,7 @@ use lib.Ieee.{Float}
 use Rattle.state.specs.declared.RenderMode.{RenderMode}
 use Rattle.state.specs.declared.Rgba.{Rgba}
 use Rattle.combiner.specs.declared.Combiner.{Combiner}
-use Rattle.raster_edges.specs.Sample.{countOf}
+use Rattle.num_bits.specs.Ones.{onesOf}
 use Rattle.frame_pixel.specs.declared.Pixel.{Pixel}
 use Rattle.blender.specs.declared.Coverage.the-variants.{Known, Unknown}
 use Rattle.blender.specs.declared.Source.{Source}
@@ -31,7 +31,7 @@ use Rattle.frame_paint.proofs.Fits.{fit-step}
 
 module _ (mode : RenderMode) (k : Combiner) (f : Frame) (pixel mask : ℕ) (color : Rgba) (shade : Float) where
   pub stored :
-      {n : ℕ} {x : Pixel} → n ≡ countOf mask
+      {n : ℕ} {x : Pixel} → n ≡ onesOf mask
       → x ≡ pixelStep mode k (record { color = color; «shade_alpha» = shade; count = n }) (pixelAt f pixel)
       → putPixel f pixel x ≡ stepFrame mode k f (emitOf pixel mask color shade)
   unfolding stepFrame
@@ -96,7 +96,7 @@ module _ (f : Frame) (p : ℕ) (x y : Pixel) (a : AlikePixel x y) (room : 3 * p 
 module _ (mode : RenderMode) (k : Combiner) (f : Frame) (pixel mask : ℕ) (color : Rgba) (shade : Float) where
   -- a step on what is known, stored as far as it then is known, is a step of the frame
   pub stored-known :
-      {n : ℕ} {b x : Pixel} {g : Frame} → n ≡ countOf mask → b ≡ knownPixel (pixelAt f pixel)
+      {n : ℕ} {b x : Pixel} {g : Frame} → n ≡ onesOf mask → b ≡ knownPixel (pixelAt f pixel)
       → x ≡ pixelStep mode k (record { color = color; «shade_alpha» = shade; count = n }) b
       → g ≡ putKnown f pixel x → 3 * pixel + 2 < length (f .colors) → pixel < length (f .coverages)
       → g ≡ stepFrame mode k f (emitOf pixel mask color shade)
@@ -118,7 +118,7 @@ module _ (mode : RenderMode) (k : Combiner) (mask : ℕ) (hue : Hue) (w y x : �
       (record { ran = record { state = refl; count = refl }; fit = fit })
 
   pub pixel-one :
-      {g : Frame} → shown (mode .antialias) mask ≡ true → (1 ≤ countOf mask) × (countOf mask ≤ 8)
+      {g : Frame} → shown (mode .antialias) mask ≡ true → (0 < mask) × (mask < 256)
       → g ≡ stepFrame mode k f (emitOf (y * w + x) mask (hue .color) (hue .«shade_alpha»))
       → Drew mode k n (pixelOf (mode .antialias) mask hue w y x) f g 1
   unfolding pixelOf

@@ -2,15 +2,15 @@
 use mathlib.Core.List.{List, foldl}
 use Rattle.state.specs.declared.RenderMode.{RenderMode}
 use Rattle.combiner.specs.declared.Combiner.{Combiner}
-use Rattle.raster_edges.specs.Sample.{countOf}
+use Rattle.num_bits.specs.Ones.{onesOf}
 use Rattle.blender.specs.declared.Source.{Source}
 use Rattle.frame_pixel.specs.Rules.{pixelStep}
 use Rattle.raster_pixel.specs.Emitted.{Emit}
 use Rattle.frame.specs.Frame.{Frame, pixelAt, putPixel}
 
--- what the rules look at of an emitted pixel
+-- what the rules look at of an emitted pixel: of its mask the number of ones
 abbrev pub sourceOf : Emit → Source
-sourceOf e = record { color = e .color; «shade_alpha» = e .shade; count = countOf (e .mask) }
+sourceOf e = record { color = e .color; «shade_alpha» = e .shade; count = onesOf (e .mask) }
 
 -- rules F1 to F5 at the pixel's place
 unfoldable pub stepFrame : RenderMode → Combiner → Frame → Emit → Frame

@@ -1,8 +1,7 @@
 // One emitted pixel on the frame: F1 to F5 on what is known of it.
 ghost use mathlib.Core.Path.{_≡_};
-ghost use Prim.Native.Nat.{_<_, _≤_};
+ghost use Prim.Native.Nat.{_<_};
 ghost use lib.ListN.{length};
-ghost use Rattle.raster_edges.specs.Sample.{countOf};
 ghost use Rattle.frame.specs.Lent.{lent, before, after};
 ghost use Rattle.frame.specs.Fits.{Fit};
 ghost use Rattle.frame_paint.specs.Steps.{stepFrame};
@@ -29,14 +28,14 @@ pub fn draw_pixel(
     shade_alpha: f32,
     pixel: usize,
 )
-    requires { ⌜ (1 ≤ countOf mask) × (countOf mask ≤ 8) ⌝ }
+    requires { ⌜ 0 < mask ⌝ }
     requires { ⌜ pixel < length (now marks) ⌝ }
     requires { ⌜ Fit (length (now marks)) (lent colors coverages marks) ⌝ }
     requires { ⌜ Own mode combiner plain own ⌝ }
     ensures { λ r. ⌜ after colors coverages marks ≡ stepFrame mode combiner (before colors coverages marks) (emitOf pixel mask color «shade_alpha») ⌝ }
 {
     let before = frame::known_pixel(colors, coverages, marks, pixel);
-    let count = raster_edges::count(mask);
+    let count = num_bits::ones(mask);
     let source = Source {
         color,
         shade_alpha,

@@ -1,0 +1,2 @@
+-- The laws that callers cite.
+pub mod Masks

@@ -5,7 +5,6 @@ use mathlib.Core.Bool.{Bool, true, false, _&&_}
 use lib.ListN.{getD}
 use lib.IntN.{ℤ, pos}
 use lib.Signed.{leZ, ltZ}
-use lib.Count.{ones}
 use Rattle.raster_edges.specs.declared.Edges.{Edges}
 
 abbrev pub bitOf : Bool → ℕ
@@ -31,7 +30,3 @@ pairOf e x s = twoOf (getD (e .left) s (pos 0)) (getD (e .right) s (pos 0)) (sam
 -- the four rows, row 0 in the highest bits: bit 7 is its left sample
 unfoldable pub maskOf : Edges → ℕ → ℕ
 maskOf e x = 64 * pairOf e x 0 + 16 * pairOf e x 1 + 4 * pairOf e x 2 + pairOf e x 3
-
--- how many samples a mask has
-abbrev pub countOf : ℕ → ℕ
-countOf m = ones m

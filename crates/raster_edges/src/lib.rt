@@ -7,7 +7,7 @@ ghost use Rattle.raster_edges.specs.Limits.{Near, AllNear, TameTri};
 ghost use Rattle.raster_edges.specs.Edge.{slopeOf, areaOf, edgeStart, edgeFrom};
 ghost use Rattle.raster_edges.specs.Span.{triOf, lineOf, edgesOf};
 ghost use Rattle.raster_edges.specs.Lines.{rowOf};
-ghost use Rattle.raster_edges.specs.Sample.{bitOf, inside, pairOf, maskOf, countOf};
+ghost use Rattle.raster_edges.specs.Sample.{bitOf, inside, pairOf, maskOf};
 ghost use Rattle.raster_edges.specs.Bound.{noSample, Between, allSamples, noRow};
 ghost use Rattle.raster_range.specs.Kept.{Kept};
 ghost use Rattle.raster_range.specs.Inner.{Inner};
@@ -229,13 +229,6 @@ pub fn mask(e: Edges, x: u32) -> u8
     let c = pair(e, x, 2);
     let d = pair(e, x, 3);
     (a << 6) | (b << 4) | (c << 2) | d
-}
-
-// How many of the eight samples are hit.
-pub fn count(mask: u8) -> u8
-    ensures { λ n. ⌜ n ≡ countOf mask ⌝ }
-{
-    u8::count_ones(mask) as u8
 }
 
 // The part of the pixels x0..x1 between the outermost edges: no sample lies outside. A line that covers nothing, as above the top corner, does not count.

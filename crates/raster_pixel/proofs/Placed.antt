@@ -1,4 +1,4 @@
--- A draw emits only pixels of the frame, each with 1 to 8 samples: it goes over rows below h and columns below w, so y * w + x is below w * h, and a pixel is
+-- A draw emits only pixels of the frame, each with a mask from 1 to 255: it goes over rows below h and columns below w, so y * w + x is below w * h, and a pixel is
 -- emitted only if a sample is hit. Assumes nothing.
 use Prim.Native.Nat.{ℕ, zero, suc, _+_, _-_, _*_, _/_, _≤_, _<_, min}
 use mathlib.Core.Path.{_≡_, refl}
@@ -18,7 +18,7 @@ use Rattle.combiner.specs.Combine.{colorOf, fullShade}
 use Rattle.raster_vertex.specs.Sorted.{sorted}
 use Rattle.raster_vertex.specs.Shade.{culledOf, shadeOf}
 use Rattle.raster_edges.specs.Edge.{areaOf}
-use Rattle.raster_edges.specs.Sample.{maskOf, countOf}
+use Rattle.raster_edges.specs.Sample.{maskOf}
 use Rattle.raster_edges.specs.Span.{triOf, edgesOf}
 use Rattle.raster_rectangle.specs.declared.Sides.{Sides}
 use Rattle.raster_rectangle.specs.Rectangle.{rectMask}
@@ -31,12 +31,12 @@ use Rattle.raster_pixel.specs.declared.Three.the-variants.{Vertices, Abs
 use Rattle.raster_pixel.specs.Admitted.{triangleAt}
 use Rattle.raster_pixel.specs.Parts.{parts, from}
 use Rattle.raster_pixel.specs.Emitted.{Emit, shown, covered, emits, inside, cornerOf, triangleFragment, triangleEmits, threeEmits, rectangleFragment, rectangleEmits, geometryEmits}
-use Rattle.raster_pixel.proofs.Masks.{mask-lt, rect-lt, shown-count}
+use Rattle.raster_pixel.proofs.Masks.{mask-lt, rect-lt, shown-some}
 
--- every pixel of a list is below n and has 1 to 8 samples
+-- every pixel of a list is below n and has a mask from 1 to 255
 pub data Placed (n : ℕ) : List Emit → Type 0 where
   none : Placed n []
-  more : {e : Emit} {es : List Emit} → e .pixel < n → (1 ≤ countOf (e .mask)) × (countOf (e .mask) ≤ 8) → Placed n es → Placed n (e ∷ es)
+  more : {e : Emit} {es : List Emit} → e .pixel < n → (0 < e .mask) × (e .mask < 256) → Placed n es → Placed n (e ∷ es)
 
 module _ {n : ℕ} where
   placed-append : {ds es : List Emit} → Placed n ds → Placed n es → Placed n (ds ++ es)
@@ -61,7 +61,7 @@ module _ {n : ℕ} where
       go : (b : Bool) → shown antialias mask ≡ b → (c : Color) → Placed n (emits (cond b (covered mask c shade) Empty) p)
       go false e c = Placed.none
       go true e color.Refused = Placed.none
-      go true e (color.Value r g b a) = Placed.more h (shown-count antialias mask l e) Placed.none
+      go true e (color.Value r g b a) = Placed.more h (shown-some antialias mask e, l) Placed.none
 
   -- a list or none
   placed-cond : (b : Bool) (es : List Emit) → Placed n es → Placed n (cond b [] es)
@@ -91,7 +91,7 @@ module _ (s : Scissor) (w h : ℕ) where
         let e = edgesOf (triOf corners) y in
         placed-shown (m .antialias) (maskOf e x) (colorOf k (shadeOf o x y)) (shadeOf o x y .a) (y * w + x) (mask-lt e x) l))
 
-    -- The pixels that a draw emits are pixels of the frame, with 1 to 8 samples each.
+    -- The pixels that a draw emits are pixels of the frame, with a mask from 1 to 255 each.
     pub geometry-placed : (vs : List Float) (ps is : List ℕ) (g : Geometry) → Placed (w * h) (geometryEmits m k cull s w h vs ps is g)
     unfolding rectangleEmits rectangleFragment
     geometry-placed vs ps is Nothing = Placed.none

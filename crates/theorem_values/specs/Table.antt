@@ -6,6 +6,7 @@ use mathlib.Core.List.{List, [], _∷_, map}
 use lib.IntN.{ℤ, pos, negsuc, negℤ}
 use lib.Ieee.{Float, fin}
 use lib.ListN.{length, replicate}
+use Rattle.num_bits.specs.Ones.{onesOf}
 use Rattle.num_float.specs.Color.{f0, f1}
 use Rattle.state.specs.declared.RenderMode.{RenderMode}
 use Rattle.state.specs.declared.CombinerUniform.{CombinerUniform}
@@ -26,7 +27,7 @@ use Rattle.raster_edges.specs.declared.Corner.{Corner}
 use Rattle.raster_edge.specs.Edge.{quantized}
 use Rattle.raster_edges.specs.Edge.{slopeOf}
 use Rattle.raster_edges.specs.Span.{triOf, edgesOf}
-use Rattle.raster_edges.specs.Sample.{maskOf, countOf}
+use Rattle.raster_edges.specs.Sample.{maskOf}
 use Rattle.raster_rectangle.specs.declared.Sides.{Sides}
 use Rattle.raster_rectangle.specs.Rectangle.{rectMask}
 use Rattle.raster_pixel.specs.declared.Geometry.{Geometry}
@@ -184,7 +185,7 @@ abbrev pub mask : DrawArgs → ℤ
 mask d = ofFirst (λ e. e .mask) (emitted d)
 
 abbrev pub samples : DrawArgs → ℤ
-samples d = ofFirst (λ e. countOf (e .mask)) (emitted d)
+samples d = ofFirst (λ e. onesOf (e .mask)) (emitted d)
 
 -- ---- the table
 unfoldable pub table : List Entry

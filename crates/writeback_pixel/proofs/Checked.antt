@@ -3,10 +3,10 @@ use Prim.Native.Nat.{ℕ, _≤_, _<_}
 use mathlib.Core.Path.{_≡_, sym, _∙_}
 use mathlib.Core.Bool.{Bool, true, false, cond, _&&_}
 use lib.Dec.{leb}
-use borrow.Author.Tests.{leb-true}
+use borrow.Author.Tests.{leb-true, ltb-true}
 use Rattle.num_float.proofs.Tests.{both-left, both-right}
 use Rattle.words_pack.specs.declared.Writer.{Writer}
-use Rattle.writeback_pixel.specs.Refusal.{countOk, coverageOk, widthOk, sizOk, placeOk, writerOk, encodeOk, accepted, refused, checked}
+use Rattle.writeback_pixel.specs.Refusal.{maskOk, coverageOk, widthOk, sizOk, placeOk, writerOk, encodeOk, accepted, refused, checked}
 
 -- what a test of a callee's answer says of what it answers for
 pub told : {r x b : Bool} → r ≡ x → r ≡ b → x ≡ b
@@ -32,8 +32,8 @@ pub first : (a b : Bool) → a ≡ false → (a && b) ≡ false
 first a b s = λ i. s i && b
 
 -- ---- what the checks let through
-pub counts : (n : ℕ) → countOk n ≡ true → (1 ≤ n) × (n ≤ 8)
-counts n p = (leb-true 1 n (both-left (leb 1 n) (leb n 8) p), leb-true n 8 (both-right (leb 1 n) (leb n 8) p))
+pub masks : (m : ℕ) → maskOk m ≡ true → 0 < m
+masks m p = ltb-true 0 m p
 
 pub coverages : (c : ℕ) → coverageOk c ≡ true → c ≤ 7
 coverages c p = leb-true c 7 p

@@ -1,8 +1,9 @@
 -- To be believed. The single-pixel calls: for each answer that is an enum, the number (docs/RULES.md) and values of every case (`..Means`), and for each call its outcome on every
--- input (`..Call`). Definitions only.
+-- input (`..Call`). A pixel's samples are given by their mask m, of which the number of ones counts. Definitions only.
 use Prim.Native.Nat.{ℕ}
 use mathlib.Core.Bool.{Bool, true, false, _&&_}
 use lib.Ieee.{Float}
+use Rattle.num_bits.specs.Ones.{onesOf}
 use Rattle.state.specs.declared.RenderMode.{RenderMode}
 use Rattle.state.specs.declared.Rgba.{Rgba}
 use Rattle.combiner.specs.declared.Combiner.{Combiner}
@@ -30,7 +31,7 @@ use Rattle.writeback_pixel.specs.declared.Packed.{Packed}
 use Rattle.writeback_pixel.specs.declared.Packed.the-variants as packed
 use Rattle.writeback_pixel.specs.declared.PixelBytes.{PixelBytes}
 use Rattle.writeback_pixel.specs.declared.PixelBytes.the-variants as size
-use Rattle.writeback_pixel.specs.Refusal.{countOk, coverageOk, knownOk, writerOk, encodeOk, Outcome, accepted, refused, checked}
+use Rattle.writeback_pixel.specs.Refusal.{maskOk, coverageOk, knownOk, writerOk, encodeOk, Outcome, accepted, refused, checked}
 
 -- ---- a yes or a no
 abbrev pub answerMeans : Answer → Outcome Bool
@@ -44,11 +45,11 @@ destinationMeans (stored.Coverage c) = accepted c
 destinationMeans stored.Refused = refused 0
 
 unfoldable pub destinationCall : RenderMode → ℕ → ℕ → Outcome ℕ
-destinationCall mode n c = checked (countOk n && coverageOk c) (destinationOf mode n c) 0
+destinationCall mode m c = checked (maskOk m && coverageOk c) (destinationOf mode (onesOf m) c) 0
 
 -- ---- color_known
 unfoldable pub colorKnownCall : RenderMode → Float → ℕ → Coverage → Bool → Outcome Bool
-colorKnownCall mode alpha n coverage memory = checked (countOk n && knownOk coverage) (colorKnown mode alpha n coverage memory) false
+colorKnownCall mode alpha m coverage memory = checked (maskOk m && knownOk coverage) (colorKnown mode alpha (onesOf m) coverage memory) false
 
 -- ---- blend
 abbrev pub noBytes : Bytes
@@ -59,8 +60,8 @@ blendMeans (blended.Bytes r g b a) = accepted (record { r = r; g = g; b = b; a =
 blendMeans blended.Refused = refused noBytes
 
 unfoldable pub blendCall : RenderMode → Combiner → Rgba → Rgba → Float → ℕ → ℕ → Outcome Bytes
-blendCall mode combiner rgba memory shade n c =
-    checked (countOk n && coverageOk c) (blendOf mode combiner rgba memory shade n c) noBytes
+blendCall mode combiner rgba memory shade m c =
+    checked (maskOk m && coverageOk c) (blendOf mode combiner rgba memory shade (onesOf m) c) noBytes
 
 -- ---- pack_color
 abbrev pub packColorMeans : Packed → Outcome ℕ

@@ -1,3 +1,4 @@
--- The definitions that the contracts of `writeback_pixel` cite.
+-- The definitions that the contracts of `writeback_pixel` cite, and the calls by a count.
 pub mod Refusal
 pub mod Calls
+pub mod Counted

@@ -10,9 +10,9 @@ use Rattle.words_pack.specs.declared.Writer.{Writer}
 abbrev pub eleven : ℕ
 eleven = 11
 
--- a count from 1 to 8
-abbrev pub countOk : ℕ → Bool
-countOk n = leb 1 n && leb n 8
+-- a mask that is not 0
+abbrev pub maskOk : ℕ → Bool
+maskOk m = ltb 0 m
 
 -- a coverage of at most 7
 abbrev pub coverageOk : ℕ → Bool

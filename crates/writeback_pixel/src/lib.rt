@@ -1,6 +1,6 @@
 // The single-pixel calls as a host makes them: each checks what number 11 (docs/RULES.md) names of its arguments, and answers zeros or no where it is turned away.
 ghost use mathlib.Core.Path.{_≡_};
-ghost use Rattle.writeback_pixel.specs.Refusal.{countOk, coverageOk, knownOk, widthOk, sizOk, placeOk, writerOk, encodeOk, accepted};
+ghost use Rattle.writeback_pixel.specs.Refusal.{maskOk, coverageOk, knownOk, widthOk, sizOk, placeOk, writerOk, encodeOk, accepted};
 ghost use Rattle.writeback_pixel.specs.Calls.{destinationMeans, destinationCall, answerMeans, colorKnownCall, blendMeans, blendCall, packColorMeans, packColorCall, supportedCall, pixelBytesMeans, pixelBytesCall, encodeMeans, encodeCall};
 use blender::Coverage;
 use combiner::Combiner;
@@ -43,8 +43,6 @@ pub enum Encoded {
     Refused,
 }
 
-const SAMPLES: u8 = 8;
-
 const FULL: u8 = 7;
 
 const WIDEST: u32 = 1024;
@@ -53,13 +51,10 @@ const LARGEST: u8 = 3;
 
 const PIXELS: usize = 1048576;
 
-fn count_ok(count: u8) -> bool
-    ensures { λ r. ⌜ r ≡ countOk count ⌝ }
+fn mask_ok(mask: u8) -> bool
+    ensures { λ r. ⌜ r ≡ maskOk mask ⌝ }
 {
-    if count == 0 {
-        return false;
-    }
-    count <= SAMPLES
+    0 < mask
 }
 
 fn coverage_ok(coverage: u8) -> bool
@@ -131,12 +126,13 @@ fn yes_or_no(yes: bool) -> Answer
     Answer::No
 }
 
-// The coverage that memory keeps after a pixel of count samples over a coverage.
-pub fn destination(mode: RenderMode, count: u8, memory: u8) -> Stored
-    ensures { λ r. ⌜ destinationMeans r ≡ destinationCall mode count memory ⌝ }
+// The coverage that memory keeps after a pixel with the mask's samples over a coverage.
+pub fn destination(mode: RenderMode, mask: u8, memory: u8) -> Stored
+    ensures { λ r. ⌜ destinationMeans r ≡ destinationCall mode mask memory ⌝ }
 {
-    if count_ok(count) {
+    if mask_ok(mask) {
         if coverage_ok(memory) {
+            let count = num_bits::ones(mask);
             return Stored::Coverage(blender::destination(mode, count, memory));
         }
         return Stored::Refused;
@@ -148,14 +144,15 @@ pub fn destination(mode: RenderMode, count: u8, memory: u8) -> Stored
 pub fn color_known(
     mode: RenderMode,
     alpha: f32,
-    count: u8,
+    mask: u8,
     coverage: Coverage,
     memory_rgb: bool,
 ) -> Answer
-    ensures { λ r. ⌜ answerMeans r ≡ colorKnownCall mode alpha count coverage «memory_rgb» ⌝ }
+    ensures { λ r. ⌜ answerMeans r ≡ colorKnownCall mode alpha mask coverage «memory_rgb» ⌝ }
 {
-    if count_ok(count) {
+    if mask_ok(mask) {
         if known_ok(coverage) {
+            let count = num_bits::ones(mask);
             return yes_or_no(blender::color_known(mode, alpha, count, coverage, memory_rgb));
         }
         return Answer::Refused;
@@ -170,13 +167,14 @@ pub fn blend(
     rgba: Rgba,
     memory: Rgba,
     shade_alpha: f32,
-    count: u8,
+    mask: u8,
     coverage: u8,
 ) -> Blended
-    ensures { λ r. ⌜ blendMeans r ≡ blendCall mode combiner rgba memory «shade_alpha» count coverage ⌝ }
+    ensures { λ r. ⌜ blendMeans r ≡ blendCall mode combiner rgba memory «shade_alpha» mask coverage ⌝ }
 {
-    if count_ok(count) {
+    if mask_ok(mask) {
         if coverage_ok(coverage) {
+            let count = num_bits::ones(mask);
             let bytes = blender::blend(mode, combiner, rgba, memory, shade_alpha, count, coverage);
             return Blended::Bytes(bytes.r, bytes.g, bytes.b, bytes.a);
         }

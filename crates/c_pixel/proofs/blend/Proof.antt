@@ -21,7 +21,7 @@ blended-requires c κs = search needs
 returns : tie.Need-returns
 returns c =
     let a = c .before .before .before .before .args in
-    answered blendMeans fourBytes (c .before .blend .result) (c .blended .ensures) (c .before .blend .ensures) (λ i. blendCall (c .before .before .render-mode .ensures i) (c .before .before .before .combiner-of .ensures i) (a .rgba) (a .memory) (a .shade-alpha) (a .count) (a .coverage))
+    answered blendMeans fourBytes (c .before .blend .result) (c .blended .ensures) (c .before .blend .ensures) (λ i. blendCall (c .before .before .render-mode .ensures i) (c .before .before .before .combiner-of .ensures i) (a .rgba) (a .memory) (a .shade-alpha) (a .mask) (a .coverage))
 
 pub blend-spec : {M : Type 1} → statement M
 blend-spec =

@@ -21,7 +21,7 @@ yes-or-no-requires c κs = search needs
 returns : tie.Need-returns
 returns c =
     let a = c .before .before .before .before .args in
-    answered answerMeans bit (c .before .color-known .result) (c .yes-or-no .ensures) (c .before .color-known .ensures) (λ i. colorKnownCall (c .before .before .render-mode .ensures i) (a .alpha) (a .count) (c .before .before .before .memory-coverage .ensures i) (a .memory-rgb))
+    answered answerMeans bit (c .before .color-known .result) (c .yes-or-no .ensures) (c .before .color-known .ensures) (λ i. colorKnownCall (c .before .before .render-mode .ensures i) (a .alpha) (a .mask) (c .before .before .before .memory-coverage .ensures i) (a .memory-rgb))
 
 pub color-known-spec : {M : Type 1} → statement M
 color-known-spec =

@@ -18,7 +18,7 @@ stored-requires c κs = search needs
 returns : tie.Need-returns
 returns c =
     let a = c .before .before .before .args in
-    answered destinationMeans same (c .before .destination .result) (c .stored .ensures) (c .before .destination .ensures) (λ i. destinationCall (c .before .before .render-mode .ensures i) (a .count) (a .memory))
+    answered destinationMeans same (c .before .destination .result) (c .stored .ensures) (c .before .destination .ensures) (λ i. destinationCall (c .before .before .render-mode .ensures i) (a .mask) (a .memory))
 
 pub destination-spec : {M : Type 1} → statement M
 destination-spec =

@@ -6,7 +6,7 @@ use lib.Bits.{bitOr}
 use Rattle.raster_edges.specs.declared.Edges.{Edges}
 use Rattle.raster_edges.specs.Sample.{pairOf, maskOf}
 use Rattle.raster_edge.proofs.Bits.{or-next}
-use Rattle.raster_edges.proofs.Ones.{pair-lt}
+use Rattle.raster_edges.proofs.Pairs.{pair-lt}
 use borrow.Author.Needs.{needs}
 use Rattle.raster_edges.proofs.mask.Statement.{statement}
 use Rattle.raster_edges.proofs.mask.Tie as tie

@@ -8,7 +8,7 @@ use lib.IntN.{ℤ, pos}
 use Rattle.raster_edges.specs.Sample.{inside, bitOf, sampleAt, twoOf, pairOf}
 use Rattle.raster_edge.proofs.Bits.{join}
 use Rattle.raster_edge.proofs.Held.{back}
-use Rattle.raster_edges.proofs.Ones.{bit-lt}
+use Rattle.raster_edges.proofs.Pairs.{bit-lt}
 use borrow.Author.Needs.{needs}
 use Rattle.raster_edges.proofs.pair.Statement.{statement}
 use Rattle.raster_edges.proofs.pair.Tie as tie

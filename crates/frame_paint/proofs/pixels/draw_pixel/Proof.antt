@@ -3,6 +3,7 @@ use Prim.Native.Nat.{ℕ, _≤_}
 use mathlib.Core.Path.{sym, subst}
 use native.Mathlib.Omega.{arith}
 use denote.Ref.{now}
+use Rattle.num_bits.proofs.Masks.{ones-range}
 use Rattle.blender.specs.Blend.{orZero}
 use Rattle.frame_pixel.specs.declared.Pixel.{Pixel}
 use Rattle.frame_pixel.specs.Rules.{coverageAt}
@@ -16,8 +17,8 @@ use Rattle.frame_paint.proofs.pixels.draw_pixel.Tie as tie
 known-pixel-requires : tie.Need-known-pixel-requires
 known-pixel-requires c κs = let s = c .before .before .before .before .before .before in fit-loadable (s .pre .1 .1 .0) (s .pre .1 .0)
 
-count-requires : tie.Need-count-requires
-count-requires c κs = search needs
+ones-requires : tie.Need-ones-requires
+ones-requires c κs = search needs
 
 coloring-of-requires : tie.Need-coloring-of-requires
 coloring-of-requires c κs = search needs
@@ -27,8 +28,9 @@ step-requires c κs =
     let n = c .before in
     let s = n .before .before .before .before .before .before .before .before in
     let a = s .args in
-    let f = frameOf (now (a .colors)) (now (a .coverages)) (now (a .marks)) in (
-      omega (arith, s .pre .0 .0, s .pre .0 .1, n .count .ensures),
+    let f = frameOf (now (a .colors)) (now (a .coverages)) (now (a .marks)) in
+    let r = ones-range (a .mask) (s .pre .0) (omega arith) in (
+      omega (arith, r .0, r .1, n .ones .ensures),
       (
         subst (λ (x : Pixel). orZero (coverageAt x) ≤ 7) (sym (n .before .known-pixel .ensures))
             (subst (λ (m : ℕ). m ≤ 7) (sym (known-sound (pixelAt f (a .pixel)))) (s .pre .1 .1 .0 .sound (a .pixel))),
@@ -56,7 +58,7 @@ returns c =
     let st = pc .before .before .before .before in
     let n = st .before .before in
     let s = n .before .before .before .before .before .before .before .before in
-    stored-known _ _ _ _ _ _ _ (n .count .ensures) (n .before .known-pixel .ensures) (st .step .ensures) (pc .put-pixel .ensures)
+    stored-known _ _ _ _ _ _ _ (n .ones .ensures) (n .before .known-pixel .ensures) (st .step .ensures) (pc .put-pixel .ensures)
     (omega (arith, s .pre .1 .0, s .pre .1 .1 .0 .colors))
     (omega (arith, s .pre .1 .0, s .pre .1 .1 .0 .coverages))
 
@@ -65,7 +67,7 @@ draw-pixel-spec =
     tie.close
     (tie.spec
     known-pixel-requires
-    count-requires
+    ones-requires
     coloring-of-requires
     step-requires
     put-pixel-requires

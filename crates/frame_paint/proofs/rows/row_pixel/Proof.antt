@@ -4,7 +4,7 @@ use mathlib.Core.Path.{sym, _∙_}
 use native.Mathlib.Omega.{arith}
 use borrow.Author.Tests.{not-true, not-false}
 use denote.Ref.{now}
-use Rattle.raster_pixel.proofs.Masks.{shown-count}
+use Rattle.raster_pixel.proofs.Masks.{shown-some}
 use Rattle.frame.specs.Frame.{frameOf}
 use Rattle.frame.proofs.Fits.{pixels-le}
 use Rattle.frame_paint.specs.Steps.{stepFrame}
@@ -44,7 +44,7 @@ draw-pixel-requires c κs =
     let e = c .before .before .before .before in
     let s = e .before .before .before .before .before in
     let h = sym (e .before .is-shown .ensures) ∙ not-false _ (e .if1 .left) in
-    (shown-count (s .args .mode .antialias) (s .args .mask) (omega arith) h, (pixel-in _ (s .pre .1) (s .pre .0 .0), (s .pre .1 .fit, s .pre .0 .1)))
+    (shown-some (s .args .mode .antialias) (s .args .mask) h, (pixel-in _ (s .pre .1) (s .pre .0 .0), (s .pre .1 .fit, s .pre .0 .1)))
 
 same-length : tie.Need-same-length
 same-length c = search needs
@@ -65,7 +65,7 @@ returns-2 c =
     let h = sym (e .before .is-shown .ensures) ∙ not-false _ (e .if1 .left) in
     let hue = u .hue-at .ensures in
     let f = frameOf (now (a .colors)) (now (a .coverages)) (now (a .marks)) in
-    pixel-one _ _ _ _ _ _ _ (s .pre .1 .fit) h (shown-count (a .mode .antialias) (a .mask) (omega arith) h)
+    pixel-one _ _ _ _ _ _ _ (s .pre .1 .fit) h (shown-some (a .mode .antialias) (a .mask) h, omega arith)
     (d .draw-pixel .ensures ∙ (λ i. stepFrame (a .mode) (a .combiner) f (emitOf (a .y * a .width + a .x) (a .mask) (hue i .color) (hue i .«shade_alpha»))))
 
 pub row-pixel-spec : {M : Type 1} → statement M
