@@ -1,2 +1,3 @@
--- A fact that a proof of `c_frame` rests on.
+-- Facts that proofs of `c_frame` rest on.
 pub mod Runs
+pub mod Lists

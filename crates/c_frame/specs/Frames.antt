@@ -1,4 +1,4 @@
--- To be believed. A draw, a word read and a run of words as C has them: what they are given, and their answers. Definitions only.
+-- To be believed. A draw, its emitted pixels, a word read and a run of words as C has them: what they are given, and their answers. Definitions only.
 use Prim.Native.Nat.{ℕ}
 use mathlib.Core.Bool.{Bool}
 use lib.Ieee.{Float}
@@ -8,6 +8,8 @@ use Rattle.frame.specs.Lent.{Slice}
 use Rattle.frame_draw.specs.Draw.{DrawArgs, DrawAnswer, drawOf}
 use Rattle.words_read.specs.Read.{ReadArgs, WordAnswer, readArgs}
 use Rattle.words_run.specs.Run.{RunAnswer}
+use Rattle.frame_emitted.specs.Emitted.{PixelAnswer}
+use Rattle.frame_emitted.specs.Run as emitted
 use Rattle.c_types.specs.declared.Mode.{Mode}
 use Rattle.c_types.specs.Convert.{modeOf, encodingOf}
 use Rattle.c_draw.specs.declared.GeometryParts.{GeometryParts}
@@ -15,6 +17,8 @@ use Rattle.c_draw.specs.Draws.{geometryFrom}
 use Rattle.c_answers.specs.declared.Answer.{Answer}
 use Rattle.c_frame.specs.declared.DrawnAnswer.{DrawnAnswer}
 use Rattle.c_frame.specs.declared.RanAnswer.{RanAnswer}
+use Rattle.c_frame.specs.declared.emitted.EmittedAnswer.{EmittedAnswer}
+use Rattle.c_frame.specs.declared.emitted.ListedAnswer.{ListedAnswer}
 use Rattle.c_answers.specs.Answers.{twoBytes}
 
 -- the draw and the read that C's values ask for
@@ -27,6 +31,13 @@ readFrom pixel fmt siz dither big = readArgs pixel fmt siz dither (encodingOf bi
 
 abbrev pub drawnAnswer : DrawAnswer → DrawnAnswer
 drawnAnswer a = record { number = a .number; pixels = a .pixels }
+
+-- an emitted pixel, and a run of them without its slices
+abbrev pub pixelAnswer : PixelAnswer → EmittedAnswer
+pixelAnswer a = record { number = a .number; pixel = a .pixel; mask = a .mask }
+
+abbrev pub listedAnswer : emitted.RunAnswer → ListedAnswer
+listedAnswer a = record { number = a .number; listed = a .listed; emitted = a .emitted }
 
 -- the two bytes, the first lowest
 abbrev pub wordAnswer : WordAnswer → Answer

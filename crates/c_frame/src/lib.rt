@@ -1,5 +1,5 @@
-// The C interface of the frame, over plain values: a draw, a word read and a run of words over three lent slices of colour bytes, coverages and marks. Crate exports gives the calls
-// their C names.
+// The C interface of the frame, over plain values: a draw, its emitted pixels, a word read and a run of words over three lent slices of colour bytes, coverages and marks. Crate exports
+// gives the calls their C names.
 ghost use mathlib.Core.Path.{_≡_};
 ghost use Rattle.frame.specs.Lent.{old, new, before, after};
 ghost use Rattle.frame_draw.specs.Draw.{drawnMeans, drawAnswer, drawFrame};
@@ -18,6 +18,8 @@ use raster_pixel::Scissor;
 use state::CombinerUniform;
 use words_read::Word;
 use words_run::Run;
+
+pub mod emitted; // the emitted pixels of a draw
 
 // The number (docs/RULES.md) and the count of pixels emitted, with repeats.
 #[repr(C)]

@@ -1,14 +1,18 @@
-// The C interface of the frame: a draw, a word read and a run of words over three lent slices of colour bytes, coverages and marks.
+// The C interface of the frame: a draw, its emitted pixels, a word read and a run of words over three lent slices of colour bytes, coverages and marks.
 ghost use mathlib.Core.Path.{_≡_};
 ghost use Rattle.frame.specs.Lent.{old, new, before, after};
 ghost use Rattle.frame_draw.specs.Draw.{drawAnswer, drawFrame};
 ghost use Rattle.words_read.specs.Read.{readAnswer};
 ghost use Rattle.words_run.specs.Run.{runAnswer};
-ghost use Rattle.c_frame.specs.Frames.{drawFrom, readFrom, drawnAnswer, wordAnswer, ranAnswer};
+ghost use Rattle.frame_emitted.specs.Emitted.{emittedAnswer};
+ghost use Rattle.frame_emitted.specs.Run.{emittedRun};
+ghost use Rattle.c_frame.specs.Frames.{drawFrom, readFrom, drawnAnswer, pixelAnswer, listedAnswer, wordAnswer, ranAnswer};
 use c_answers::Answer;
 use c_draw::GeometryParts;
 use c_frame::DrawnAnswer;
 use c_frame::RanAnswer;
+use c_frame::emitted::EmittedAnswer;
+use c_frame::emitted::ListedAnswer;
 use c_types::Mode;
 use raster_pixel::Scissor;
 use state::CombinerUniform;
@@ -46,6 +50,86 @@ pub extern "C" fn wb_draw(
         vertices,
         present,
         indices,
+    )
+}
+
+#[no_mangle]
+pub extern "C" fn wb_emitted_pixel(
+    width: u32,
+    height: u32,
+    colors: &[u8],
+    coverages: &[u8],
+    marks: &[u8],
+    mode: Mode,
+    uniform: CombinerUniform,
+    cull: bool,
+    scissor: Scissor,
+    geometry: GeometryParts,
+    vertices: &[f32],
+    present: &[u8],
+    indices: &[u32],
+    k: u64,
+) -> EmittedAnswer
+    ensures { λ r. ⌜ r ≡ pixelAnswer (emittedAnswer (drawFrom mode uniform cull scissor geometry vertices present indices) width height (before colors coverages marks) k) ⌝ }
+{
+    c_frame::emitted::emitted_pixel(
+        width,
+        height,
+        colors,
+        coverages,
+        marks,
+        mode,
+        uniform,
+        cull,
+        scissor,
+        geometry,
+        vertices,
+        present,
+        indices,
+        k,
+    )
+}
+
+#[no_mangle]
+pub extern "C" fn wb_emitted_pixels(
+    width: u32,
+    height: u32,
+    colors: &[u8],
+    coverages: &[u8],
+    marks: &[u8],
+    mode: Mode,
+    uniform: CombinerUniform,
+    cull: bool,
+    scissor: Scissor,
+    geometry: GeometryParts,
+    vertices: &[f32],
+    present: &[u8],
+    indices: &[u32],
+    first: u64,
+    pixels: &mut [u32],
+    masks: &mut [u8],
+) -> ListedAnswer
+    ensures answer { λ r. ⌜ r ≡ listedAnswer (emittedRun (drawFrom mode uniform cull scissor geometry vertices present indices) width height (before colors coverages marks) first (old pixels) (old masks)) ⌝ }
+    ensures pixels { λ r. ⌜ new pixels ≡ emittedRun (drawFrom mode uniform cull scissor geometry vertices present indices) width height (before colors coverages marks) first (old pixels) (old masks) .pixels ⌝ }
+    ensures masks { λ r. ⌜ new masks ≡ emittedRun (drawFrom mode uniform cull scissor geometry vertices present indices) width height (before colors coverages marks) first (old pixels) (old masks) .masks ⌝ }
+{
+    c_frame::emitted::emitted_pixels(
+        width,
+        height,
+        colors,
+        coverages,
+        marks,
+        mode,
+        uniform,
+        cull,
+        scissor,
+        geometry,
+        vertices,
+        present,
+        indices,
+        first,
+        pixels,
+        masks,
     )
 }
 

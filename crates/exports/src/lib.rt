@@ -28,7 +28,7 @@ use combiner_inputs::ColorIn;
 use state::CombinerUniform;
 use state::Rgba;
 
-mod frames; // a draw, a word read and a run of words
+mod frames; // a draw, its emitted pixels, a word read and a run of words
 
 // ---- selectors: combiner.rs
 

@@ -37,7 +37,7 @@ module _ (d : DrawArgs) (w h : ℕ) where
       go true = emitted-placed k
       go false = Placed.none
 
-  plan-placed : (f : Frame) → Placed (w * h) (pixelsOf (planOf d w h f))
+  pub plan-placed : (f : Frame) → Placed (w * h) (pixelsOf (planOf d w h f))
   unfolding planOf
   plan-placed f = go (entryRefusal f w h (d .scissor) (d .vertices) (d .present) (d .indices))
     where

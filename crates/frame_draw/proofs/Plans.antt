@@ -160,7 +160,7 @@ module _ (d : DrawArgs) (w h : ℕ) (f : Frame) where
   unfolding drawAnswer drawFrame
   answered x q a b n = (a ∙ ap answerBy q, (b ∙ ap (λ (p : Plan). frameBy (d .mode) p f) q, n))
 
-  number-of : {n : ℕ} → Plan.refuse n ≡ planOf d w h f → 1 ≤ n
+  pub number-of : {n : ℕ} → Plan.refuse n ≡ planOf d w h f → 1 ≤ n
   unfolding planOf
   number-of p = numbered d w h (entryRefusal f w h (d .scissor) (d .vertices) (d .present) (d .indices)) (newOf (d .uniform) (d .mode)) p
 
@@ -171,7 +171,7 @@ module _ (d : DrawArgs) (w h : ℕ) (f : Frame) where
         answered (drawn.Refused n) p refl refl (number-of p)
 
     module _ {x : Combiner} (er : r ≡ accept.With x) where
-      accepted-plan : Plan.accept x (emittedBy d w h x) ≡ planOf d w h f
+      pub accepted-plan : Plan.accept x (emittedBy d w h x) ≡ planOf d w h f
       accepted-plan = ap (planBy d w h) (sym er) ∙ e
 
       facts : Taken d x (entryRefusal f w h (d .scissor) (d .vertices) (d .present) (d .indices)) (newOf (d .uniform) (d .mode))

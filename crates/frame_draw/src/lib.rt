@@ -23,7 +23,7 @@ pub enum Accepted {
     Refused(u8),
 }
 
-fn accept(
+pub fn accept(
     width: u32,
     height: u32,
     colors: &[u8],

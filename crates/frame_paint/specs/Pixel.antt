@@ -1,12 +1,9 @@
--- Inner vocabulary. What a part of a draw does, one emitted pixel, the room that a frame has for the pixels of its rows, and a part of a row with all its samples. Definitions only.
-use Prim.Native.Nat.{ℕ, _*_, _≤_, _<_}
+-- Inner vocabulary. What a part of a draw does, one emitted pixel, and the room that a frame has for the pixels of its rows. Definitions only.
+use Prim.Native.Nat.{ℕ, _*_, _≤_}
 use mathlib.Core.Path.{_≡_}
 use lib.Ieee.{Float}
 use lib.ListN.{length}
 use Rattle.state.specs.declared.Rgba.{Rgba}
-use Rattle.raster_range.specs.declared.Range.{Range}
-use Rattle.raster_edges.specs.declared.Edges.{Edges}
-use Rattle.raster_edges.specs.Sample.{maskOf}
 use Rattle.raster_pixel.specs.Emitted.{Emit}
 use Rattle.frame.specs.Frame.{Frame}
 use Rattle.frame.specs.Fits.{Fit}
@@ -36,7 +33,3 @@ pub record Room (w b : ℕ) (f : Frame) : Type 0 where
   pub high : b ≤ 1024
   pub there : b * w ≤ length (f .marks)
   pub fit : Fit (length (f .marks)) f
-
--- every pixel of a part of a row has all its samples
-abbrev pub Fulls : Edges → Range → Type 0
-Fulls e r = (x : ℕ) → r .start ≤ x → x < r .end → maskOf e x ≡ 255

@@ -1,12 +1,11 @@
 // A row of a triangle or of a rectangle. Where every sample is known to be covered none is tested, and full pixels of one colour are drawn as a run.
 ghost use mathlib.Core.Path.{_≡_};
-ghost use mathlib.Core.Bool.{true, _&&_};
 ghost use Prim.Native.Nat.{_+_, _<_, _≤_};
 ghost use lib.ListN.{length};
-ghost use Rattle.raster_edges.specs.Sample.{maskOf};
 ghost use Rattle.raster_pixel.specs.Parts.{from};
 ghost use Rattle.frame.specs.Lent.{lent};
-ghost use Rattle.frame_paint.specs.Pixel.{Room, Fulls, DrewOn};
+ghost use Rattle.raster_pixel.specs.Row.{Fulls};
+ghost use Rattle.frame_paint.specs.Pixel.{Room, DrewOn};
 ghost use Rattle.frame_paint.specs.Paint.{Prepared, Own};
 ghost use Rattle.frame_paint.specs.Row.{hueOf, pixelOf, rowAt, Runs};
 use crate::fill::fill_row;
@@ -21,27 +20,10 @@ use raster_vertex::row::ShadeRow;
 use state::RenderMode;
 use state::Rgba;
 
-const ALL: u8 = 255;
-
 // A pixel's combined colour and its shade alpha.
 pub struct Hue {
     pub color: Rgba,
     pub shade_alpha: f32,
-}
-
-// The samples of pixel x: all eight in the full part of its row, where none is tested.
-fn samples(edges: Edges, full: Range, x: u32) -> u8
-    requires { ⌜ x < 65536 ⌝ }
-    requires { ⌜ Fulls edges full ⌝ }
-    ensures { λ r. ⌜ r ≡ maskOf edges x ⌝ }
-{
-    if x < full.start {
-        return raster_edges::mask(edges, x);
-    }
-    if x < full.end {
-        return ALL;
-    }
-    raster_edges::mask(edges, x)
 }
 
 // By its shade; in a flat row, the one colour, with 1.0 for the shade's alpha.
@@ -105,25 +87,6 @@ fn row_pixel(
     1
 }
 
-// Where the part of a row that starts at x ends: after pixel x, or after the run of full pixels where it starts.
-fn part_end(runs: bool, full: Range, x: u32, end: u32) -> u32
-    requires { ⌜ (x < end) × (full .end ≤ end) ⌝ }
-    ensures within { λ r. ⌜ (x < r) × (r ≤ end) ⌝ }
-    ensures run { λ r. ⌜ (x + 1 < r → (runs ≡ true) × (full .start ≤ x) × (r ≤ full .end)) ⌝ }
-{
-    let next = x + 1;
-    if !runs {
-        return next;
-    }
-    if x != full.start {
-        return next;
-    }
-    if next < full.end {
-        return full.end;
-    }
-    next
-}
-
 // Pixel x of row y, or the run from x up to next.
 fn draw_part(
     colors: &mut [u8],
@@ -146,7 +109,7 @@ fn draw_part(
     if x + 1 < next {
         return fill_row(colors, coverages, marks, paint, width, y, x, next);
     }
-    let mask = samples(edges, full, x);
+    let mask = raster_pixel::row::samples(edges, full, x);
     row_pixel(
         colors,
         coverages,
@@ -189,7 +152,7 @@ pub fn draw_row(
     let mut n: u64 = 0;
     let mut x = start;
     while x < end {
-        let next = part_end(runs, full, x, end);
+        let next = raster_pixel::row::part_end(runs, full, x, end);
         n += draw_part(
             colors,
             coverages,

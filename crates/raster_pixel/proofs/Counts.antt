@@ -2,13 +2,16 @@
 -- once. Assumes nothing.
 use mathlib.Core.Bool.{Bool, true, false, cond, _||_}
 use mathlib.Core.List.{List, [], _∷_, map}
-use Prim.Native.Nat.{ℕ, _+_, _-_, _*_, _≤_}
+use Prim.Native.Nat.{ℕ, _+_, _-_, _*_, _/_, _≤_}
 use native.Mathlib.Omega.{arith}
 use lib.Dec.{eqb}
 use lib.IntN.{natAbs}
+use lib.Ieee.{Float}
 use lib.ListN.{length}
 use Rattle.state.specs.declared.RenderMode.{RenderMode}
 use Rattle.combiner.specs.declared.Combiner.{Combiner}
+use Rattle.combiner.specs.Combine.{colorOf, fullShade}
+use Rattle.raster_rectangle.specs.declared.Sides.{Sides}
 use Rattle.raster_vertex.specs.declared.Vertex.{Vertex}
 use Rattle.raster_vertex.specs.Sorted.{sorted}
 use Rattle.raster_vertex.specs.Shade.{culledOf}
@@ -17,11 +20,14 @@ use Rattle.raster_edges.specs.Span.{triOf, edgesOf}
 use Rattle.raster_pixel.specs.declared.Scissor.{Scissor}
 use Rattle.raster_pixel.specs.declared.Fragment.{Fragment}
 use Rattle.raster_pixel.specs.declared.Fragment.the-variants.{Empty, Covered}
+use Rattle.raster_pixel.specs.declared.Geometry.{Geometry}
+use Rattle.raster_pixel.specs.declared.Geometry.the-variants.{Nothing, Triangles, Rectangle}
 use Rattle.raster_pixel.specs.declared.Three.{Three}
 use Rattle.raster_pixel.specs.declared.Three.the-variants.{Vertices, Absent}
 use Rattle.raster_pixel.specs.Parts.{from}
 use Rattle.raster_pixel.specs.Area.{rightOf, bottomOf}
-use Rattle.raster_pixel.specs.Emitted.{emits, inside, cornerOf, triangleFragment, triangleEmits, threeEmits}
+use Rattle.raster_pixel.specs.Emitted.{emits, inside, cornerOf, triangleFragment, triangleEmits, threeEmits, rectangleFragment, rectangleEmits, geometryEmits}
+use Rattle.raster_pixel.specs.Admitted.{triangleAt}
 use Rattle.raster_pixel.proofs.Parts.{parts-bound}
 
 emits-most : (f : Fragment) (p : ℕ) → length (emits f p) ≤ 1
@@ -56,3 +62,15 @@ module _ (s : Scissor) {w h : ℕ} (wide : w ≤ 1024) (high : h ≤ 1024) where
   pub triangles-most : (m : RenderMode) (k : Combiner) (cull : Bool) (t : ℕ → Three) (n : ℕ) → length (from (λ (i : ℕ). threeEmits m k cull s w h (t i)) 0 n) ≤ n * 1048576
   triangles-most m k cull t n =
       omega (arith, parts-bound (λ (i : ℕ). threeEmits m k cull s w h (t i)) 1048576 (λ i. three-most m k cull (t i)) (n - 0) 0)
+
+  -- a draw
+  pub geometry-most :
+      (m : RenderMode) (k : Combiner) (cull : Bool) (vs : List Float) (ps is : List ℕ) (g : Geometry)
+      → length (geometryEmits m k cull s w h vs ps is g) ≤ (length is / 3 + 1) * 1048576
+  unfolding rectangleEmits
+  geometry-most m k cull vs ps is Nothing = omega arith
+  geometry-most m k cull vs ps is (Rectangle l t r b) =
+      let sides : Sides = record { left = l; top = t; right = r; bottom = b } in
+      let pixel : ℕ → ℕ → Fragment = λ (y x : ℕ). rectangleFragment (m .antialias) (colorOf k fullShade) sides y x in
+      omega (arith, inside-most (λ (y x : ℕ). emits (pixel y x) (y * w + x)) (λ y x. emits-most (pixel y x) (y * w + x)))
+  geometry-most m k cull vs ps is Triangles = omega (arith, triangles-most m k cull (triangleAt vs ps is) (length is / 3))

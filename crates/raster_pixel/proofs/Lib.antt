@@ -8,3 +8,4 @@ pub mod Masks
 pub mod Placed
 pub mod Kept
 pub mod Counts
+pub mod Near

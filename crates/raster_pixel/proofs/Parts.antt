@@ -6,7 +6,7 @@ use mathlib.Core.List.{List, [], _∷_, _++_}
 use Prim.Native.Nat.{ℕ, zero, suc, _+_, _-_, _*_, _≤_, _<_}
 use native.Mathlib.Nat.{suc-mul, add-zero}
 use native.Mathlib.Omega.{arith}
-use lib.ListN.{length, length-append}
+use lib.ListN.{length, getD, length-append}
 use Rattle.raster_pixel.specs.Parts.{parts, from}
 
 module _ {A : Type 0} (c : ℕ → List A) where
@@ -117,3 +117,27 @@ module _ {A : Type 0} (c : ℕ → List A) where
       ∙ ap (λ (n : ℕ). from c n b) f
       ∙ cut (e - s) s b (λ j p q. after j (omega arith) q) (omega arith)
       ∙ ap (λ (n : ℕ). from c s n) g
+
+-- parts of one element each
+module _ {A : Type 0} (x : ℕ → A) where
+  ones : ℕ → List A
+  ones i = x i ∷ []
+
+  ones-length : (k a : ℕ) → length (parts ones k a) ≡ k
+  unfolding parts ones
+  ones-length zero a = refl
+  ones-length (suc k) a = ap suc (ones-length k (a + 1))
+
+  ones-at : (d : A) (k a j : ℕ) → j < k → getD (parts ones k a) j d ≡ x (a + j)
+  unfolding parts ones
+  ones-at d zero a j h = absurd (omega arith)
+  ones-at d (suc k) a zero h = ap x (sym (add-zero a))
+  ones-at d (suc k) a (suc j) h = let e : a + 1 + j ≡ a + suc j = omega arith in ones-at d k (a + 1) j (omega arith) ∙ ap x e
+
+  pub each-length : (a n : ℕ) → length (from (λ (i : ℕ). x i ∷ []) a (a + n)) ≡ n
+  unfolding ones
+  each-length a n = let e : a + n - a ≡ n = omega arith in ones-length (a + n - a) a ∙ e
+
+  pub each-at : (d : A) (a n j : ℕ) → j < n → getD (from (λ (i : ℕ). x i ∷ []) a (a + n)) j d ≡ x (a + j)
+  unfolding ones
+  each-at d a n j h = ones-at d (a + n - a) a j (omega arith)

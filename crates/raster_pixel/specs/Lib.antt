@@ -2,5 +2,7 @@
 pub mod Parts
 pub mod Ran
 pub mod Area
+pub mod Row
 pub mod Admitted
 pub mod Emitted
+pub mod Near

@@ -15,6 +15,8 @@ use raster_edges::Edges;
 use raster_rectangle::Sides;
 use raster_vertex::Vertex;
 
+pub mod row; // the parts of a row
+
 // In pixels.
 #[repr(C)]
 pub struct Scissor {

@@ -1,14 +1,10 @@
 -- A triangle by its sorted corners: nothing where it is culled or has no area, and else its rows; and triangle i of a list. Assumes nothing.
-use mathlib.Core.Path.{_≡_, refl, sym, ap, subst, _∙_}
+use mathlib.Core.Path.{_≡_, refl, sym, ap, _∙_}
 use mathlib.Core.Bool.{Bool, true, false, cond, _||_}
 use mathlib.Core.List.{List, [], _∷_, map}
-use Prim.Native.Nat.{ℕ, zero, suc, _+_, _*_, _/_, _≤_, _<_}
-use native.Mathlib.Omega.{arith}
-use borrow.Author.Tests.{ne-eqb}
+use Prim.Native.Nat.{ℕ, _+_, _*_, _≤_}
 use lib.Dec.{eqb}
-use lib.IntN.{ℤ, pos, negsuc, natAbs}
-use lib.Ieee.{Float}
-use lib.ListN.{length}
+use lib.IntN.{ℤ, pos, natAbs}
 use Rattle.state.specs.declared.RenderMode.{RenderMode}
 use Rattle.combiner.specs.declared.Combiner.{Combiner}
 use Rattle.raster_range.specs.declared.Range.{Range}
@@ -20,19 +16,15 @@ use Rattle.raster_edges.specs.declared.Corner.{Corner}
 use Rattle.raster_edges.specs.declared.Tri.{Tri}
 use Rattle.raster_edges.specs.Bound.{noRow}
 use Rattle.raster_edges.specs.Edge.{areaOf}
-use Rattle.raster_edges.specs.Limits.{AllNear, TameTri}
 use Rattle.raster_edges.specs.Span.{triOf, edgesOf}
-use Rattle.raster_edges.proofs.Tame.{tame}
 use Rattle.raster_pixel.specs.declared.Area.{Area}
-use Rattle.raster_pixel.specs.declared.Geometry.the-variants.{Triangles}
 use Rattle.raster_pixel.specs.declared.Scissor.{Scissor}
 use Rattle.raster_pixel.specs.declared.Three.{Three}
 use Rattle.raster_pixel.specs.declared.Three.the-variants.{Vertices, Absent}
-use Rattle.raster_pixel.specs.Admitted.{triangleAt, admittedOf}
 use Rattle.raster_pixel.specs.Area as area
 use Rattle.raster_pixel.specs.Emitted.{Emit, emits, inside, cornerOf, triangleFragment, triangleEmits, threeEmits}
 use Rattle.raster_pixel.specs.Parts.{from}
-use Rattle.raster_pixel.proofs.Checked.{AllIn, admitted-in, sorted-near}
+use Rattle.raster_pixel.proofs.Near.{nonzero, corners-are}
 use Rattle.frame.specs.Frame.{Frame}
 use Rattle.frame.specs.Fits.{Fit}
 use Rattle.frame_paint.specs.declared.prepare.Paint.{Paint}
@@ -41,25 +33,8 @@ use Rattle.frame_paint.specs.Paint.{Ready}
 use Rattle.frame_paint.proofs.Drawing.{drew-as}
 use Rattle.rasterize.specs.declared.rows.Shading.{Shading}
 use Rattle.rasterize.specs.Shape.{shadingOf, shapePixel, shapeRow}
-use Rattle.rasterize.specs.Triangles.{Placed}
 use Rattle.rasterize.proofs.Kept.{drew-nothing}
 use Rattle.rasterize.proofs.Shapes.{triangle-pixel, shape-drawn}
-
-nonzero : (z : ℤ) → (z ≡ pos 0 → ⊥) → eqb (natAbs z) 0 ≡ false
-nonzero (pos zero) h = absurd (h refl)
-nonzero (pos (suc n)) h = ne-eqb (suc n) 0 (λ e. omega arith)
-nonzero (negsuc n) h = ne-eqb (suc n) 0 (λ e. omega arith)
-
--- ---- its corners
-module _ (a b c : Vertex) {v : List Vertex} (ev : v ≡ sorted (a ∷ b ∷ c ∷ [])) {q : List Corner} (eq : q ≡ map cornerOf v) where
-  corners-are : q ≡ map cornerOf (sorted (a ∷ b ∷ c ∷ []))
-  corners-are = eq ∙ ap (map cornerOf) ev
-
-  pub near : Placed a b c → AllNear q
-  near = subst AllNear (sym corners-are)
-
-  pub tame-as : {t : Tri} → t ≡ triOf q → Placed a b c → TameTri t
-  tame-as et p = subst TameTri (sym et) (tame q (near p))
 
 -- ---- culled, or without an area
 none : (t : Bool) (es : List Emit) → t ≡ true → cond t [] es ≡ []
@@ -110,8 +85,3 @@ module _ (mode : RenderMode) (k : Combiner) (cull : Bool) (s : Scissor) (w h : �
       {a b c : Vertex} {g : Frame} {n : ℕ} → r ≡ Vertices a b c
       → Drew mode k m (triangleEmits mode k cull s w h a b c) f g n → Drew mode k m (threeEmits mode k cull s w h t) f g n
   three-drawn p = three-as p
-
-pub placed :
-    (k : Combiner) (vs : List Float) (ps is : List ℕ) → admittedOf k Triangles vs ps is ≡ true → (i : ℕ) → i < length is / 3
-    → {r : Three} {a b c : Vertex} → r ≡ triangleAt vs ps is i → r ≡ Vertices a b c → Placed a b c
-placed k vs ps is h i l {r} {a} {b} {c} e p = sorted-near a b c (subst AllIn (sym e ∙ p) (admitted-in k vs ps is h i l))

@@ -6,11 +6,12 @@ ghost use lib.ListN.{length};
 ghost use Rattle.raster_pixel.specs.declared.Geometry.the-variants.{Triangles};
 ghost use Rattle.raster_pixel.specs.Admitted.{admittedOf, triangleAt};
 ghost use Rattle.raster_pixel.specs.Area.{Sized};
+ghost use Rattle.raster_pixel.specs.Near.{CornersNear};
 ghost use Rattle.raster_pixel.specs.Emitted.{triangleEmits, threeEmits};
 ghost use Rattle.frame.specs.Lent.{old, lent};
 ghost use Rattle.frame_paint.specs.Pixel.{DrewOn, Room};
 ghost use Rattle.frame_paint.specs.Paint.{Ready};
-ghost use Rattle.rasterize.specs.Triangles.{Placed, trianglesOf};
+ghost use Rattle.rasterize.specs.Triangles.{trianglesOf};
 use crate::rows::draw_rows;
 use crate::rows::shading_of;
 use frame_paint::prepare::Paint;
@@ -32,7 +33,7 @@ fn draw_triangle(
     b: Vertex,
     c: Vertex,
 ) -> u64
-    requires shape { ⌜ Ready paint × Placed a b c ⌝ }
+    requires shape { ⌜ Ready paint × CornersNear a b c ⌝ }
     requires sized { ⌜ Sized scissor width height ⌝ }
     requires room { ⌜ Room width height (lent colors coverages marks) ⌝ }
     ensures drew { λ r. ⌜ DrewOn (paint .mode) (paint .combiner) (triangleEmits (paint .mode) (paint .combiner) cull scissor width height a b c) colors coverages marks r ⌝ }

@@ -1,5 +1,6 @@
 -- Demand 3. Of a call the theorem needs three facts, for frames of any shape: on alike frames it answers the same, it leaves alike frames alike, and mark 1 is
--- after it as its last verdict said. Part 1 shows them of a word read and of a run of them, part 2 of a draw, part 3 carries them along a list. A further kind of call is a
+-- after it as its last verdict said. Part 1 shows them of a word read and of a run of them, part 2 of a draw, part 3 carries them along a list. A question for emitted pixels
+-- has them by the draw's plan alone (frame_emitted/proofs/Frames). A further kind of call is a
 -- further constructor with its three facts. Assumes nothing.
 use Prim.Native.Nat.{ℕ, zero, suc, _*_, _<_}
 use mathlib.Core.Path.{_≡_, refl, sym, ap, ap₂, subst, _∙_}
@@ -26,6 +27,7 @@ use Rattle.frame_paint.specs.Steps.{sourceOf, stepFrame, drawList}
 use Rattle.frame.specs.Checks.{frameRefusal, orElse}
 use Rattle.frame_draw.specs.Draw.{DrawArgs, Plan, planOf, frameBy, drawFrame}
 use Rattle.frame_draw.proofs.Frames.{pixelsOf, plan-same, draw-same, plan-marked}
+use Rattle.frame_emitted.proofs.Frames.{pixel-same, pixels-same}
 use Rattle.words_run.specs.Run.{readAt, RunAnswer, runBy, runAnswer}
 use Rattle.words_run.proofs.Answers.{answers-same}
 use Rattle.words_read.specs.Read.{ReadArgs, writerOf, wordRefusal, readRefusal, wordOf, wordOr, readAnswer}
@@ -167,6 +169,18 @@ module _ (w h : ℕ) where
         alike = λ f g a. a;
         marked = λ f p. refl;
       }
+  keeps (Call.pixel d k) =
+      record {
+        same = λ f g a. ap Answer.masked (pixel-same d w h f g (refusal-same w h a) k);
+        alike = λ f g a. a;
+        marked = λ f p. refl;
+      }
+  keeps (Call.pixels d first ps ms) =
+      record {
+        same = λ f g a. ap Answer.listed (pixels-same d w h f g (refusal-same w h a) first ps ms);
+        alike = λ f g a. a;
+        marked = λ f p. refl;
+      }
 
   same-answers : (os : List Call) (f g : Frame) → Alike f g → answers w h os f ≡ answers w h os g
   same-answers [] f g a = refl
@@ -185,7 +199,7 @@ module _ (w h : ℕ) where
       ∙ ap (lastAt p (said w h os (frameAfter w h o f))) (keeps o .marked f p)
       ∙ sym (last-append p (saidBy w h o f) (said w h os (frameAfter w h o f)) (knownAt p f))
 
--- For every list of draws, word reads and runs of them, refused ones included, made in order on two frames that are alike in sizes, slice lengths, marks, known colours and
+-- For every list of draws, word reads, questions for emitted pixels and runs of the latter two, refused ones included, made in order on two frames that are alike in sizes, slice lengths, marks, known colours and
 -- known coverages: the answers are the same from first to last, the frames are alike after it, and on each a pixel's colour is then marked known exactly when F1
 -- and F2 said yes to the last pixel that the list's accepted draws emitted there, or, if they emitted none there, when it was so marked at the start.
 pub secret : (w h : ℕ) (os : List Call) (f g : Frame) → Alike f g → Secret w h os f g

@@ -43,6 +43,8 @@ module _ (w h : ℕ) where
   saidBy (Call.draw d) f = saidByPlan (d .mode) f (planOf d w h f)
   saidBy (Call.read a) f = []
   saidBy (Call.reads a ws ns) f = []
+  saidBy (Call.pixel d k) f = []
+  saidBy (Call.pixels d first ps ms) f = []
 
   abbrev pub said : List Call → Frame → List Said
   said [] f = []

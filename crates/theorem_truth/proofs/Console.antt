@@ -57,6 +57,8 @@ module _ (w h : ℕ) where
       call (Call.draw d) = draw-is w h d f a
       call (Call.read r) = refl
       call (Call.reads r ws ns) = refl
+      call (Call.pixel d k) = refl
+      call (Call.pixels d first ps ms) = refl
 
 -- ---- what is handed out
 module _ (f : Frame) (colors coverages : ℕ → ℕ) (w h : ℕ) (low : (p : ℕ) → coverages p ≤ 7) (e : frameRefusal f w h ≡ 0) (os : List Call) where

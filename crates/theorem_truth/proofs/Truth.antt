@@ -1,5 +1,6 @@
 -- What is known is true. Of a call the theorem needs two facts, for frames of which g knows at least what f knows: its answer on g tells at least what the one on f
--- tells, and it leaves such frames. Parts 1 and 2 show them of a draw, proofs/Words of a word read and of a run of them, part 3 carries them along a list. Part 4 is the
+-- tells, and it leaves such frames. Parts 1 and 2 show them of a draw, proofs/Words of a word read and of a run of them, part 3 carries them along a list. Emitted pixels turn
+-- on the frame by numbers 1 to 3 alone (frame_emitted/proofs/Frames). Part 4 is the
 -- case that matters most: a frame on which everything is known. A further kind of call is a further clause of `keeps` with its two facts, and one in part 4 and in
 -- proofs/Console. Assumes nothing.
 use Prim.Native.Nat.{ℕ, zero, suc, _*_, _≤_, _<_}
@@ -30,6 +31,9 @@ use Rattle.frame_draw.specs.Draw.{DrawArgs, Plan, planOf, DrawAnswer, frameBy, 
 use Rattle.frame_draw.proofs.Frames.{plan-same, draw-same, draw-refusal}
 use Rattle.words_read.specs.Read.{ReadArgs, writerOf, readable, wordRefusal, readRefusal, wordOf, wordOr, readAnswer}
 use Rattle.words_run.specs.Run.{entryOf, runAnswer}
+use Rattle.frame_emitted.specs.Emitted.{PixelAnswer, emittedAnswer}
+use Rattle.frame_emitted.specs.Run as emitted
+use Rattle.frame_emitted.proofs.Frames.{pixel-same, pixels-same}
 use Rattle.theorem_calls.specs.Calls.{Call, Answer, answerTo, frameAfter, answers, frameAfterAll}
 use Rattle.theorem_truth.specs.Truth.{TellsAnswer, Tells, Truth}
 use Rattle.theorem_truth.proofs.Words.{read-tells, run-tells, word-again, entry-again}
@@ -76,6 +80,16 @@ module _ (w h : ℕ) where
       }
   keeps (Call.read r) = record { tells = λ g f a. TellsAnswer.word (read-tells w h a r); knows = λ g f a. a }
   keeps (Call.reads r ws ns) = record { tells = λ g f a. TellsAnswer.run (run-tells w h a r ws ns); knows = λ g f a. a }
+  keeps (Call.pixel d k) =
+      record {
+        tells = λ g f a. subst (λ (v : PixelAnswer). TellsAnswer (Answer.masked v) (Answer.masked (emittedAnswer d w h f k))) (sym (pixel-same d w h g f (a .numbers) k)) TellsAnswer.masked;
+        knows = λ g f a. a;
+      }
+  keeps (Call.pixels d first ps ms) =
+      record {
+        tells = λ g f a. subst (λ (v : emitted.RunAnswer). TellsAnswer (Answer.listed v) (Answer.listed (emitted.emittedRun d w h f first ps ms))) (sym (pixels-same d w h g f (a .numbers) first ps ms)) TellsAnswer.listed;
+        knows = λ g f a. a;
+      }
 
   list-tells : (os : List Call) (g f : Frame) → KnowsAtLeast w h g f → Tells (answers w h os g) (answers w h os f)
   list-tells [] g f a = Tells.none
@@ -85,8 +99,8 @@ module _ (w h : ℕ) where
   knows-after [] g f a = a
   knows-after (o ∷ os) g f a = knows-after os (frameAfter w h o g) (frameAfter w h o f) (keeps o .knows g f a)
 
--- If g knows at least what f knows, then for every list of draws, word reads and runs of them, refused ones included, made in order on both: each draw is answered alike,
--- number and count; each word that is handed out on f is handed out on g and is the same word, and a word that is turned away on f is turned away on g with the same
+-- If g knows at least what f knows, then for every list of draws, word reads, questions for emitted pixels and runs of the latter two, refused ones included, made in order on
+-- both: each draw is answered alike, number and count, and so is each question for emitted pixels; each word that is handed out on f is handed out on g and is the same word, and a word that is turned away on f is turned away on g with the same
 -- number, or with number 10 on f and handed out on g; and after the list g still knows at least what f knows.
 pub truth : (w h : ℕ) (os : List Call) (g f : Frame) → KnowsAtLeast w h g f → Truth w h os g f
 truth w h os g f a = record { tells = list-tells w h os g f a; knows = knows-after w h os g f a }
@@ -129,6 +143,8 @@ pub call-all-known : (w h : ℕ) (o : Call) (f : Frame) → AllKnown f → AllKn
 call-all-known w h (Call.draw d) f a = draw-all-known w h d f a
 call-all-known w h (Call.read r) f a = a
 call-all-known w h (Call.reads r ws ns) f a = a
+call-all-known w h (Call.pixel d k) f a = a
+call-all-known w h (Call.pixels d first ps ms) f a = a
 
 -- Everything stays known along any list.
 pub all-known-after : (w h : ℕ) (os : List Call) (f : Frame) → AllKnown f → AllKnown (frameAfterAll w h os f)

@@ -26,6 +26,8 @@ module _ (w h : ℕ) where
   consoleAfter (Call.draw d) f = consoleBy (d .mode) (planOf d w h f) f
   consoleAfter (Call.read a) f = f
   consoleAfter (Call.reads a ws ns) f = f
+  consoleAfter (Call.pixel d k) f = f
+  consoleAfter (Call.pixels d first ps ms) f = f
 
   abbrev pub consoleAfterAll : List Call → Frame → Frame
   consoleAfterAll [] f = f

@@ -9,6 +9,8 @@ use Rattle.frame.specs.Knows.{KnowsAtLeast}
 use Rattle.frame_draw.specs.Draw.{DrawAnswer}
 use Rattle.words_read.specs.Read.{WordAnswer, noWord, wordOr}
 use Rattle.words_run.specs.Run.{RunAnswer, entryOf}
+use Rattle.frame_emitted.specs.Emitted.{PixelAnswer}
+use Rattle.frame_emitted.specs.Run as emitted
 use Rattle.theorem_calls.specs.Calls.{Call, Answer, answers, frameAfterAll}
 
 -- ---- an answer b, on g, tells at least what the answer a, on f, tells
@@ -31,11 +33,13 @@ pub data TellsRun : RunAnswer → RunAnswer → Type 0 where
   same : {a : RunAnswer} → TellsRun a a
   read : {b a : RunAnswer} → TellsEntries b a → TellsRun b a
 
--- a draw: the same number and the same count
+-- a draw: the same number and the same count; emitted pixels: the same
 pub data TellsAnswer : Answer → Answer → Type 0 where
   drawn : {a : DrawAnswer} → TellsAnswer (Answer.drawn a) (Answer.drawn a)
   word : {b a : WordAnswer} → TellsWord b a → TellsAnswer (Answer.word b) (Answer.word a)
   run : {b a : RunAnswer} → TellsRun b a → TellsAnswer (Answer.run b) (Answer.run a)
+  masked : {a : PixelAnswer} → TellsAnswer (Answer.masked a) (Answer.masked a)
+  listed : {a : emitted.RunAnswer} → TellsAnswer (Answer.listed a) (Answer.listed a)
 
 -- so for each call of a list
 pub data Tells : List Answer → List Answer → Type 0 where

@@ -58,6 +58,10 @@ pub use raster_vertex::Vertex;
 // The frame.
 pub use frame_draw::Drawn;
 pub use frame_draw::draw;
+pub use frame_emitted::Emitted;
+pub use frame_emitted::Listed;
+pub use frame_emitted::emitted_pixel;
+pub use frame_emitted::emitted_pixels;
 pub use words_read::Word;
 pub use words_read::read_word;
 pub use words_run::Run;

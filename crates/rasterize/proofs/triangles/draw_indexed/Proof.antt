@@ -1,5 +1,7 @@
 -- `draw_indexed` meets its contract: an admitted triangle has its vertices, in range.
-use Rattle.rasterize.proofs.Corners.{three-absent, three-drawn, placed}
+use mathlib.Core.Path.{sym, _∙_}
+use Rattle.raster_pixel.proofs.Near.{admitted-near}
+use Rattle.rasterize.proofs.Corners.{three-absent, three-drawn}
 use borrow.Author.Needs.{needs}
 use Rattle.rasterize.proofs.triangles.draw_indexed.Statement.{statement}
 use Rattle.rasterize.proofs.triangles.draw_indexed.Tie as tie
@@ -19,7 +21,7 @@ returns c = three-absent _ _ _ _ _ _ (c .before .before .triangle-at .ensures) (
 draw-triangle-requires : tie.Need-draw-triangle-requires
 draw-triangle-requires c κs =
     let s = c .before .before .before .before .before .before .before .before .before .before .before .before .before in
-    ((s .pre .0 .0, placed _ _ _ _ (s .pre .1 .0) _ (s .pre .0 .1) (c .before .before .before .before .before .before .triangle-at .ensures) (c .before .before .before .before .a .given .1)), s .pre .1 .1)
+    ((s .pre .0 .0, admitted-near _ _ _ _ (s .pre .1 .0) _ (s .pre .0 .1) _ _ _ (sym (c .before .before .before .before .before .before .triangle-at .ensures) ∙ c .before .before .before .before .a .given .1)), s .pre .1 .1)
 
 same-length : tie.Need-same-length
 same-length c = search needs

@@ -8,7 +8,8 @@ use Rattle.frame_paint.proofs.Drawing.{room-less}
 use Rattle.raster_pixel.proofs.Inside.{bounded}
 use Rattle.raster_pixel.proofs.Parts.{from-none}
 use Rattle.rasterize.proofs.Kept.{drew-nothing}
-use Rattle.rasterize.proofs.Corners.{near, tame-as, culled-none, area-none, triangle-drawn}
+use Rattle.raster_pixel.proofs.Near.{near, tame-as}
+use Rattle.rasterize.proofs.Corners.{culled-none, area-none, triangle-drawn}
 use borrow.Author.Needs.{needs}
 use Rattle.rasterize.proofs.triangles.draw_triangle.Statement.{statement}
 use Rattle.rasterize.proofs.triangles.draw_triangle.Tie as tie

@@ -2,8 +2,8 @@
 use mathlib.Core.Path.{sym}
 use native.Mathlib.Omega.{arith}
 use borrow.Author.Needs.{needs}
-use Rattle.frame_paint.proofs.rows.samples.Statement.{statement}
-use Rattle.frame_paint.proofs.rows.samples.Tie as tie
+use Rattle.raster_pixel.proofs.row.samples.Statement.{statement}
+use Rattle.raster_pixel.proofs.row.samples.Tie as tie
 
 mask-requires : tie.Need-mask-requires
 mask-requires c κs = search needs

@@ -2,8 +2,8 @@
 use native.Mathlib.Omega.{arith}
 use borrow.Author.Tests.{not-true, not-false}
 use borrow.Author.Needs.{needs}
-use Rattle.frame_paint.proofs.rows.part_end.Statement.{statement}
-use Rattle.frame_paint.proofs.rows.part_end.Tie as tie
+use Rattle.raster_pixel.proofs.row.part_end.Statement.{statement}
+use Rattle.raster_pixel.proofs.row.part_end.Tie as tie
 
 add-next : tie.Need-add-next
 add-next c = search needs

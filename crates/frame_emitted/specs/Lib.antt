@@ -1,0 +1,4 @@
+-- The definitions that the contracts of `frame_emitted` cite.
+pub mod Emitted
+pub mod Run
+pub mod Places

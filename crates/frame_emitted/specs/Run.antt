@@ -1,0 +1,57 @@
+-- To be believed. A run of emitted pixels: the single answers to k = first, first + 1, .. one after the other, into lent slices for their pixels and their masks. Definitions
+-- only. Source: docs/RULES.md, Emitted pixels by themselves.
+use Prim.Native.Nat.{ℕ, zero, suc, _+_, _-_, _≤_, min}
+use mathlib.Core.Bool.{cond}
+use mathlib.Core.List.{List, [], _∷_, map}
+use lib.Dec.{eqb}
+use lib.ListN.{length}
+use Rattle.raster_pixel.specs.Parts.{from}
+use Rattle.frame.specs.Checks.{orElse}
+use Rattle.frame.specs.Frame.{Frame}
+use Rattle.frame_draw.specs.Draw.{DrawArgs, drawAnswer}
+use Rattle.frame_emitted.specs.declared.Listed.{Listed}
+use Rattle.frame_emitted.specs.declared.Listed.the-variants.{Pixels, Refused}
+use Rattle.frame_emitted.specs.Emitted.{PixelAnswer, emittedAnswer}
+
+-- the number, how many slots have a pixel, how many pixels the draw emits, and the two slices afterwards
+pub record RunAnswer : Type 0 where
+  pub number : ℕ
+  pub listed : ℕ
+  pub emitted : ℕ
+  pub pixels : List ℕ
+  pub masks : List ℕ
+
+abbrev pub runMeans : Listed → List ℕ → List ℕ → RunAnswer
+runMeans (Pixels n m) ps ms = record { number = 0; listed = n; emitted = m; pixels = ps; masks = ms }
+runMeans (Refused k) ps ms = record { number = k; listed = 0; emitted = 0; pixels = ps; masks = ms }
+
+-- a run that is turned away has a number
+abbrev pub NumberedRun : Listed → Type 0
+NumberedRun (Pixels n m) = Unit
+NumberedRun (Refused k) = 1 ≤ k
+
+-- the single answers to k = first up to first + n
+abbrev pub singles : DrawArgs → ℕ → ℕ → Frame → ℕ → ℕ → List PixelAnswer
+singles d w h f first n = from (λ (k : ℕ). emittedAnswer d w h f k ∷ []) first (first + n)
+
+-- the run's own refusal, after numbers 1 to 7: the two slices have not one length. It changes nothing
+abbrev pub unequal : ℕ
+unequal = 20
+
+abbrev pub runRefusal : DrawArgs → ℕ → ℕ → Frame → List ℕ → List ℕ → ℕ
+runRefusal d w h f ps ms = orElse (drawAnswer d w h f .number) (cond (eqb (length ps) (length ms)) 0 unequal)
+
+-- accepted, a slot for each single answer; the draw's count is what `draw` would answer, and the slots that have a pixel are those before it
+abbrev pub runBy : ℕ → ℕ → ℕ → List PixelAnswer → List ℕ → List ℕ → RunAnswer
+runBy zero first emitted answers ps ms =
+    record {
+      number = 0;
+      listed = min (length ms) (emitted - first);
+      emitted = emitted;
+      pixels = map (λ (a : PixelAnswer). a .pixel) answers;
+      masks = map (λ (a : PixelAnswer). a .mask) answers;
+    }
+runBy (suc k) first emitted answers ps ms = record { number = suc k; listed = 0; emitted = 0; pixels = ps; masks = ms }
+
+unfoldable pub emittedRun : DrawArgs → ℕ → ℕ → Frame → ℕ → List ℕ → List ℕ → RunAnswer
+emittedRun d w h f first ps ms = runBy (runRefusal d w h f ps ms) first (drawAnswer d w h f .pixels) (singles d w h f first (length ms)) ps ms
