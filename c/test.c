@@ -899,6 +899,44 @@ static void emitted_pixels(void) {
     check_refused_run(&s, __LINE__, 0, 1, 2, 7);
 }
 
+/* The most that a draw emits: 4,096 triangles over all of the largest frame. The last place has 32 bits, and the count 33. */
+static void most_pixels(void) {
+    enum { WIDE = 1024, AREA = WIDE * WIDE, INDICES = 12288 };
+    static uint8_t colors[3 * AREA], coverages[AREA], marks[AREA];
+    static uint32_t indices[INDICES];
+    const uint8_t present[3] = {1, 1, 1};
+    float v[18];
+    uint32_t pixels[3] = {77, 77, 77};
+    uint8_t masks[3] = {77, 77, 77};
+    scene s = plain_scene();
+    s.mode.antialias = true;
+    s.scissor.width = s.scissor.height = WIDE;
+    s.geometry = of_kind(WB_TRIANGLES);
+    set_vertex(v, -1024.0f, 0.0f, grey(1.0f));
+    set_vertex(v + 6, 1023.75f, -2048.0f, grey(1.0f));
+    set_vertex(v + 12, 1023.75f, 2047.75f, grey(1.0f));
+    for (uint32_t i = 0; i < INDICES; i++) {
+        indices[i] = i % 3;
+    }
+    const uint64_t most = (uint64_t)AREA * (INDICES / 3);
+    CHECK(most, (uint64_t)UINT32_MAX + 1);
+    wb_emitted got = wb_emitted_pixel(WIDE, WIDE, colors, sizeof colors, coverages, sizeof coverages, marks, sizeof marks, s.mode, s.uniform, s.cull, s.scissor,
+                                      s.geometry, v, 18, present, 3, indices, INDICES, most);
+    CHECK(got.number, 0);
+    CHECK(got.pixel | got.mask, 0);
+    wb_emitted_run run = wb_emitted_pixels(WIDE, WIDE, colors, sizeof colors, coverages, sizeof coverages, marks, sizeof marks, s.mode, s.uniform, s.cull, s.scissor,
+                                           s.geometry, v, 18, present, 3, indices, INDICES, most - 2, pixels, 3, masks, 3);
+    CHECK(run.number, 0);
+    CHECK(run.listed, 2);
+    CHECK(run.emitted, most);
+    /* two samples of a row's last pixel lie on the right side, which is left out */
+    CHECK(pixels[0], AREA - 2);
+    CHECK(masks[0], 0xff);
+    CHECK(pixels[1], AREA - 1);
+    CHECK(masks[1], 0xee);
+    CHECK(pixels[2] | masks[2], 0);
+}
+
 /* Numbers 1 to 3 and 8 to 10. */
 static void refused_reads(void) {
     scene s = plain_scene();
@@ -982,6 +1020,7 @@ int main(int count, char **words) {
     draw_blended();
     refused_draws();
     emitted_pixels();
+    most_pixels();
     refused_reads();
     read_run();
     check_recorded_calls(words[1]);

@@ -7,7 +7,13 @@ use oracle::library;
 use std::time::Instant;
 
 /// The scenes whose draws are listed.
-const SCENES: [&str; 3] = ["shaded triangles of mixed size", "flat triangles", "large rectangles"];
+const SCENES: [&str; 5] = [
+    "shaded triangles of mixed size",
+    "flat triangles",
+    "large rectangles",
+    "tiny shaded triangles",
+    "tiny flat triangles, 1024 x 1024",
+];
 
 pub fn is_listed(scene: &Scene) -> bool {
     SCENES.contains(&scene.name)

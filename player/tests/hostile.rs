@@ -380,21 +380,26 @@ fn slices_for_masks() {
     assert_eq!(slots, [(3, 0xff), (0, 0), (0, 0)]);
 }
 
-/// As many pixels as a frame has, again and again: places from one triangle into the next.
+/// The largest frame, filled by as many triangles as number 5 lets through: 2^32 pixels, of which the last one's place has 32 bits
+/// and the count 33. Two of the last pixel's samples lie on the triangle's right side.
 #[test]
-fn pixels_that_come_again() {
-    let frame = Frame::new(8, 4).unwrap();
-    let vertices: Vertices = [[-8.0, -8.0], [64.0, -8.0], [-8.0, 64.0]]
+fn the_most_pixels() {
+    let frame = Frame::new(1024, 1024).unwrap();
+    let vertices: Vertices = [[-1024.0, 0.0], [1023.75, -2048.0], [1023.75, 2047.75]]
         .into_iter()
         .map(|position| Vertex { position, color: [1.0; 4] })
         .collect();
     let draw = Draw { geometry: Geometry::Triangles, vertices: &vertices, indices: &[0, 1, 2].repeat(4096), ..whole() };
-    let last = EmittedPixel { pixel: 31, mask: 0xff };
-    assert_eq!(frame.emitted_pixel(&draw, 32 * 4096 - 1), Ok(Some(last)));
-    assert_eq!(frame.emitted_pixel(&draw, 32 * 4096), Ok(None));
-    let (run, slots) = slots(&frame, &draw, 32 * 4095 - 1, 2);
-    assert_eq!(run, Ok(EmittedRun { listed: 2, emitted: 32 * 4096 }));
-    assert_eq!(slots, [(31, 0xff), (0, 0xff)]);
+    let last = EmittedPixel { pixel: 1_048_575, mask: 0xee };
+    assert_eq!(frame.emitted_pixel(&draw, (1 << 32) - 1), Ok(Some(last)));
+    assert_eq!(frame.emitted_pixel(&draw, 1 << 32), Ok(None));
+    let (run, ends) = slots(&frame, &draw, (1 << 32) - 2, 3);
+    assert_eq!(run, Ok(EmittedRun { listed: 2, emitted: 1 << 32 }));
+    assert_eq!(ends, [(1_048_574, 0xff), (1_048_575, 0xee), (0, 0)]);
+    // From one triangle into the next.
+    let (run, between) = slots(&frame, &draw, (1 << 31) - 1, 2);
+    assert_eq!(run, Ok(EmittedRun { listed: 2, emitted: 1 << 32 }));
+    assert_eq!(between, [(1_048_575, 0xee), (0, 0xff)]);
 }
 
 /// Splitmix64.
