@@ -27,9 +27,9 @@ module _ (mode : RenderMode) (k : Combiner) where
   fit-step {n} {f} e h a b =
       let x = pixelAt f (e .pixel) in
       let y = pixelStep mode k (sourceOf e) x in
-      let n = ones-range (e .mask) a b in
+      let c = ones-range (e .mask) a b in
       put-fit h (e .pixel) y
-      (mark-good (y .mark) (y .coverage) (mark-after mode k (sourceOf e) x) (coverage-after mode k (sourceOf e) x (n .0) (n .1) (h .sound (e .pixel))))
+      (mark-good (y .mark) (y .coverage) (mark-after mode k (sourceOf e) x) (coverage-after mode k (sourceOf e) x (c .0) (c .1) (h .sound (e .pixel))))
 
   pub fit-list : {m n : ℕ} {f : Frame} {es : List Emit} → Fit n f → Placed m es → Fit n (drawList mode k f es)
   fit-list h Placed.none = h
