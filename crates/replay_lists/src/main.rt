@@ -10,11 +10,11 @@
 //
 // The sample, the file stdin beside src/, is what `record lists` writes with its own seed. After each call, also one that draws
 // nothing, every byte of the three slices is held against the recorded ones, which the next call of the list works on.
-mod calls;
 mod tally;
-mod text;
 
-use calls::Outcome;
+use replay_calls::calls;
+use replay_calls::calls::Outcome;
+use replay_calls::text;
 use replay_values::line::line_end;
 use tally::Tally;
 ghost use Prim.Native.Nat.{_≤_};

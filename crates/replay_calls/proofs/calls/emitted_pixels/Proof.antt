@@ -1,9 +1,9 @@
--- `replay_lists::calls::draw` is safe: no list is longer than its room. Assumes nothing.
+-- `replay_lists::calls::emitted_pixels` is safe: no list is longer than its room. Assumes nothing.
 use borrow.Author.Needs.{needs}
 use mathlib.Core.Path.{sym}
 use lib.Seq.{length-take-le}
-use Rattle.replay_lists.proofs.calls.draw.Statement.{statement}
-use Rattle.replay_lists.proofs.calls.draw.Tie as tie
+use Rattle.replay_calls.proofs.calls.emitted_pixels.Statement.{statement}
+use Rattle.replay_calls.proofs.calls.emitted_pixels.Tie as tie
 
 slice-aggregate-arguments : tie.Need-slice-aggregate-arguments
 slice-aggregate-arguments c = search needs
@@ -26,41 +26,29 @@ returns c = search needs
 array-share-prefix-vertices : tie.Need-array-share-prefix-vertices
 array-share-prefix-vertices c = search needs
 
-slice-aggregate-ask-draw : tie.Need-slice-aggregate-ask-draw
-slice-aggregate-ask-draw c = sym (length-take-le _ _ (search needs))
+slice-aggregate-run-of : tie.Need-slice-aggregate-run-of
+slice-aggregate-run-of c = sym (length-take-le _ _ (search needs))
 
 array-share-prefix-present : tie.Need-array-share-prefix-present
 array-share-prefix-present c = search needs
 
-slice-aggregate-ask-draw-2 : tie.Need-slice-aggregate-ask-draw-2
-slice-aggregate-ask-draw-2 c = sym (length-take-le _ _ (search needs))
+slice-aggregate-run-of-2 : tie.Need-slice-aggregate-run-of-2
+slice-aggregate-run-of-2 c = sym (length-take-le _ _ (search needs))
 
 array-share-prefix-indices : tie.Need-array-share-prefix-indices
 array-share-prefix-indices c = search needs
 
-slice-aggregate-ask-draw-3 : tie.Need-slice-aggregate-ask-draw-3
-slice-aggregate-ask-draw-3 c = sym (length-take-le _ _ (search needs))
+slice-aggregate-run-of-3 : tie.Need-slice-aggregate-run-of-3
+slice-aggregate-run-of-3 c = sym (length-take-le _ _ (search needs))
 
-ask-draw-requires : tie.Need-ask-draw-requires
-ask-draw-requires c κs = search needs
-
-compare-requires : tie.Need-compare-requires
-compare-requires c κs = search needs
-
-same-length : tie.Need-same-length
-same-length c = search needs
-
-same-length-2 : tie.Need-same-length-2
-same-length-2 c = search needs
-
-same-length-3 : tie.Need-same-length-3
-same-length-3 c = search needs
+run-of-requires : tie.Need-run-of-requires
+run-of-requires c κs = search needs
 
 returns-2 : tie.Need-returns-2
 returns-2 c = search needs
 
-pub draw-spec : {M : Type 1} → statement M
-draw-spec =
+pub emitted-pixels-spec : {M : Type 1} → statement M
+emitted-pixels-spec =
     tie.close
     (tie.spec
     slice-aggregate-arguments
@@ -70,14 +58,10 @@ draw-spec =
     malformed-requires
     returns
     array-share-prefix-vertices
-    slice-aggregate-ask-draw
+    slice-aggregate-run-of
     array-share-prefix-present
-    slice-aggregate-ask-draw-2
+    slice-aggregate-run-of-2
     array-share-prefix-indices
-    slice-aggregate-ask-draw-3
-    ask-draw-requires
-    compare-requires
-    same-length
-    same-length-2
-    same-length-3
+    slice-aggregate-run-of-3
+    run-of-requires
     returns-2)

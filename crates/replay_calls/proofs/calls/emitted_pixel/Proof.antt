@@ -2,8 +2,8 @@
 use borrow.Author.Needs.{needs}
 use mathlib.Core.Path.{sym}
 use lib.Seq.{length-take-le}
-use Rattle.replay_lists.proofs.calls.emitted_pixel.Statement.{statement}
-use Rattle.replay_lists.proofs.calls.emitted_pixel.Tie as tie
+use Rattle.replay_calls.proofs.calls.emitted_pixel.Statement.{statement}
+use Rattle.replay_calls.proofs.calls.emitted_pixel.Tie as tie
 
 slice-aggregate-arguments : tie.Need-slice-aggregate-arguments
 slice-aggregate-arguments c = search needs

@@ -3,8 +3,8 @@ use mathlib.Core.Path.{_≡_}
 use Prim.Native.Nat.{_≤_, _-_}
 use lib.ListN.{length}
 use borrow.Author.Needs.{needs}
-use Rattle.replay_lists.proofs.text.numbers.Statement.{statement}
-use Rattle.replay_lists.proofs.text.numbers.Tie as tie
+use Rattle.replay_calls.proofs.text.numbers.Statement.{statement}
+use Rattle.replay_calls.proofs.text.numbers.Tie as tie
 
 abbrev Inv-loop : tie.InvT-loop
 Inv-loop s at to₀ count next₀ same₀ i₀ to next same i = (i ≤ count) × (length to ≡ length to₀)

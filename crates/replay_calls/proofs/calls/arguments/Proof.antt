@@ -1,8 +1,8 @@
 -- `replay_lists::calls::arguments` is safe, and no list is longer than its room. Assumes nothing.
 use borrow.Author.Needs.{needs}
 use native.Mathlib.Omega.{arith}
-use Rattle.replay_lists.proofs.calls.arguments.Statement.{statement}
-use Rattle.replay_lists.proofs.calls.arguments.Tie as tie
+use Rattle.replay_calls.proofs.calls.arguments.Statement.{statement}
+use Rattle.replay_calls.proofs.calls.arguments.Tie as tie
 
 draw-words-requires : tie.Need-draw-words-requires
 draw-words-requires c κs = search needs

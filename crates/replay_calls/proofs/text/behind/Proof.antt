@@ -1,8 +1,8 @@
 -- `replay_lists::text::behind` is safe and ends. The measure is the letters that are left. Assumes nothing.
 use Prim.Native.Nat.{_≤_, _-_}
 use borrow.Author.Needs.{needs}
-use Rattle.replay_lists.proofs.text.behind.Statement.{statement}
-use Rattle.replay_lists.proofs.text.behind.Tie as tie
+use Rattle.replay_calls.proofs.text.behind.Statement.{statement}
+use Rattle.replay_calls.proofs.text.behind.Tie as tie
 
 abbrev Inv-loop : tie.InvT-loop
 Inv-loop s at name size i₀ i = i ≤ size

@@ -3,8 +3,8 @@ use mathlib.Core.Path.{_≡_}
 use Prim.Native.Nat.{_≤_, _-_}
 use lib.ListN.{length}
 use borrow.Author.Needs.{needs}
-use Rattle.replay_lists.proofs.text.words.Statement.{statement}
-use Rattle.replay_lists.proofs.text.words.Tie as tie
+use Rattle.replay_calls.proofs.text.words.Statement.{statement}
+use Rattle.replay_calls.proofs.text.words.Tie as tie
 
 abbrev Inv-loop : tie.InvT-loop
 Inv-loop s at numbers₀ floats₀ count next₀ i₀ numbers floats next i = (i ≤ count) × (length numbers ≡ length numbers₀) × (length floats ≡ length floats₀)

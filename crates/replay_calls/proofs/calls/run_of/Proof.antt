@@ -2,8 +2,8 @@
 use borrow.Author.Needs.{needs}
 use mathlib.Core.Path.{sym}
 use lib.Seq.{length-take-le}
-use Rattle.replay_lists.proofs.calls.run_of.Statement.{statement}
-use Rattle.replay_lists.proofs.calls.run_of.Tie as tie
+use Rattle.replay_calls.proofs.calls.run_of.Statement.{statement}
+use Rattle.replay_calls.proofs.calls.run_of.Tie as tie
 
 word-requires : tie.Need-word-requires
 word-requires c κs = search needs
