@@ -3,8 +3,8 @@
  * draw emits.
  *
  * Every function is total and keeps no state. It takes and gives plain values, but for lists, which are lent for the call: a list is given by where it starts, which is not
- * NULL even of an empty one, and how many elements it has. Only wb_draw writes the frame's three
- * lists, and only wb_read_words and wb_emitted_pixels each the two for its answers; what is written overlaps no other list of the call. What each function
+ * NULL even of an empty one, and how many elements it has. Only wb_draw writes the frame's three lists; wb_read_words and wb_emitted_pixels write the two lists for their
+ * answers, and no other function writes anything. What is written overlaps no other list of the call. What each function
  * answers is proved: the contracts stand in crates/exports/src, the definitions that they cite in the specs/ of the crates below it. c/run.sh holds this file to those crates
  * and calls every function from C.
  *
@@ -304,8 +304,8 @@ typedef struct {
 } wb_emitted_run;
 
 /* The emitted pixels from first on, as many as there are slots: pixels[i] and masks[i] are what wb_emitted_pixel answers for first + i, so that both are 0 past the
- * last pixel. With no slots it answers how many pixels the draw emits. Number 20, which comes after 1 to 7: pixels and masks have not the same length. Turned away, it
- * writes nothing and answers zeros. */
+ * last pixel, and also where first + i is more than 2^64 - 1. With no slots it answers how many pixels the draw emits. Number 20, which comes after 1 to 7: pixels and masks
+ * have not the same length. Turned away, it writes nothing, and both counts are 0. */
 wb_emitted_run wb_emitted_pixels(uint32_t width, uint32_t height, const uint8_t *colors, size_t colors_len, const uint8_t *coverages, size_t coverages_len,
                                  const uint8_t *marks, size_t marks_len, wb_mode mode, wb_uniform uniform, bool cull, wb_scissor scissor, wb_geometry geometry,
                                  const float *vertices, size_t vertices_len, const uint8_t *present, size_t present_len, const uint32_t *indices,

@@ -123,18 +123,19 @@ impl Frame {
     /// The pixel that [`Frame::draw`] would emit at place `k`, counted from 0 and with repeats; `None` where it emits no more
     /// than `k`. Nothing is drawn. It is turned away with numbers 1 to 7, as the draw would be.
     ///
-    /// Every call goes through the draw's pixels up to that place: [`Frame::emitted_pixels`] lists all of them for the price
-    /// of the last.
+    /// Every call goes through the draw's pixels up to that place: [`Frame::emitted_pixels_from`] lists many in one such walk,
+    /// and [`Frame::emitted_pixels`] all of them in two.
     pub fn emitted_pixel(&self, draw: &Draw, k: u64) -> Result<Option<EmittedPixel>, Refusal> {
         ffi::emitted_pixel(self.lent(), draw, k)
     }
 
     /// The pixels that [`Frame::draw`] would emit at the places `first`, `first + 1`, .. in turn, as many as there are slots in
     /// `pixels` and `masks`: their numbers, and the masks of their samples (see [`EmittedPixel`]). Slots past the last pixel
-    /// are 0 in both; the mask of a pixel never is. It answers how many there are. Nothing is drawn.
+    /// are 0 in both; the mask of a pixel never is. It answers how many slots have a pixel, and how many pixels the draw emits
+    /// in all. Nothing is drawn.
     ///
-    /// It is turned away with numbers 1 to 7, as the draw would be, and then with number 20 where the two slices have not the
-    /// same length; and then changes nothing.
+    /// It is turned away with numbers 1 to 7, as the draw would be, and after these with number 20 where the two slices have
+    /// not the same length. Turned away, it writes nothing.
     pub fn emitted_pixels_from(
         &self,
         draw: &Draw,

@@ -4,17 +4,17 @@ use mathlib.Core.Path.{_≡_, refl, ap, _∙_}
 use mathlib.Core.List.{List}
 use Rattle.frame_emitted.specs.declared.Listed.{Listed}
 use Rattle.frame_emitted.specs.declared.Listed.the-variants.{Pixels, Refused}
-use Rattle.frame_emitted.specs.Run.{RunAnswer, runMeans}
+use Rattle.frame_emitted.specs.Run.{PixelsAnswer, pixelsMeans}
 use Rattle.c_frame.specs.declared.emitted.ListedAnswer.{ListedAnswer}
 use Rattle.c_frame.specs.Frames.{listedAnswer}
 
-slices : (r : Listed) (ps ms : List ℕ) → (ps ≡ runMeans r ps ms .pixels) × (ms ≡ runMeans r ps ms .masks)
+slices : (r : Listed) (ps ms : List ℕ) → (ps ≡ pixelsMeans r ps ms .pixels) × (ms ≡ pixelsMeans r ps ms .masks)
 slices (Pixels n m) ps ms = (refl, refl)
 slices (Refused k) ps ms = (refl, refl)
 
 pub listed-as :
-    (r : Listed) {c : ListedAnswer} (ps ms : List ℕ) {a : RunAnswer} → c ≡ listedAnswer (runMeans r ps ms) → runMeans r ps ms ≡ a
+    (r : Listed) {c : ListedAnswer} (ps ms : List ℕ) {a : PixelsAnswer} → c ≡ listedAnswer (pixelsMeans r ps ms) → pixelsMeans r ps ms ≡ a
     → (c ≡ listedAnswer a) × ((ps ≡ a .pixels) × (ms ≡ a .masks))
 listed-as r ps ms e p =
     let s = slices r ps ms in
-    (e ∙ ap listedAnswer p, (s .0 ∙ ap (λ (a : RunAnswer). a .pixels) p, s .1 ∙ ap (λ (a : RunAnswer). a .masks) p))
+    (e ∙ ap listedAnswer p, (s .0 ∙ ap (λ (a : PixelsAnswer). a .pixels) p, s .1 ∙ ap (λ (a : PixelsAnswer). a .masks) p))

@@ -9,7 +9,7 @@ use Rattle.frame_draw.specs.Draw.{DrawArgs, DrawAnswer, drawOf}
 use Rattle.words_read.specs.Read.{ReadArgs, WordAnswer, readArgs}
 use Rattle.words_run.specs.Run.{RunAnswer}
 use Rattle.frame_emitted.specs.Emitted.{PixelAnswer}
-use Rattle.frame_emitted.specs.Run as emitted
+use Rattle.frame_emitted.specs.Run.{PixelsAnswer}
 use Rattle.c_types.specs.declared.Mode.{Mode}
 use Rattle.c_types.specs.Convert.{modeOf, encodingOf}
 use Rattle.c_draw.specs.declared.GeometryParts.{GeometryParts}
@@ -36,7 +36,7 @@ drawnAnswer a = record { number = a .number; pixels = a .pixels }
 abbrev pub pixelAnswer : PixelAnswer → EmittedAnswer
 pixelAnswer a = record { number = a .number; pixel = a .pixel; mask = a .mask }
 
-abbrev pub listedAnswer : emitted.RunAnswer → ListedAnswer
+abbrev pub listedAnswer : PixelsAnswer → ListedAnswer
 listedAnswer a = record { number = a .number; listed = a .listed; emitted = a .emitted }
 
 -- the two bytes, the first lowest

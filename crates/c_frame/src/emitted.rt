@@ -4,7 +4,7 @@ ghost use mathlib.Core.List.{List};
 ghost use Prim.Native.Nat.{ℕ};
 ghost use Rattle.frame.specs.Lent.{old, new, before};
 ghost use Rattle.frame_emitted.specs.Emitted.{pixelMeans, emittedAnswer};
-ghost use Rattle.frame_emitted.specs.Run.{runMeans, emittedRun};
+ghost use Rattle.frame_emitted.specs.Run.{pixelsMeans, emittedRun};
 ghost use Rattle.c_frame.specs.Frames.{drawFrom, pixelAnswer, listedAnswer};
 use c_draw::GeometryParts;
 use c_draw::geometry_of;
@@ -54,7 +54,7 @@ pub struct ListedAnswer {
 }
 
 fn listed(answer: Listed) -> ListedAnswer
-    ensures { λ r. ⌜ ((pixels masks : List ℕ) → r ≡ listedAnswer (runMeans answer pixels masks)) ⌝ }
+    ensures { λ r. ⌜ ((pixels masks : List ℕ) → r ≡ listedAnswer (pixelsMeans answer pixels masks)) ⌝ }
 {
     match answer {
         Listed::Pixels(listed, emitted) => ListedAnswer {
@@ -127,9 +127,15 @@ pub fn emitted_pixels(
     pixels: &mut [u32],
     masks: &mut [u8],
 ) -> ListedAnswer
-    ensures answer { λ r. ⌜ r ≡ listedAnswer (emittedRun (drawFrom mode uniform cull scissor geometry vertices present indices) width height (before colors coverages marks) first (old pixels) (old masks)) ⌝ }
-    ensures pixels { λ r. ⌜ new pixels ≡ emittedRun (drawFrom mode uniform cull scissor geometry vertices present indices) width height (before colors coverages marks) first (old pixels) (old masks) .pixels ⌝ }
-    ensures masks { λ r. ⌜ new masks ≡ emittedRun (drawFrom mode uniform cull scissor geometry vertices present indices) width height (before colors coverages marks) first (old pixels) (old masks) .masks ⌝ }
+    ensures answer { λ r.
+        let d = drawFrom mode uniform cull scissor geometry vertices present indices in
+        ⌜ r ≡ listedAnswer (emittedRun d width height (before colors coverages marks) first (old pixels) (old masks)) ⌝ }
+    ensures pixels { λ r.
+        let d = drawFrom mode uniform cull scissor geometry vertices present indices in
+        ⌜ new pixels ≡ emittedRun d width height (before colors coverages marks) first (old pixels) (old masks) .pixels ⌝ }
+    ensures masks { λ r.
+        let d = drawFrom mode uniform cull scissor geometry vertices present indices in
+        ⌜ new masks ≡ emittedRun d width height (before colors coverages marks) first (old pixels) (old masks) .masks ⌝ }
 {
     let m = render_mode(mode);
     let g = geometry_of(geometry);

@@ -109,9 +109,15 @@ pub extern "C" fn wb_emitted_pixels(
     pixels: &mut [u32],
     masks: &mut [u8],
 ) -> ListedAnswer
-    ensures answer { λ r. ⌜ r ≡ listedAnswer (emittedRun (drawFrom mode uniform cull scissor geometry vertices present indices) width height (before colors coverages marks) first (old pixels) (old masks)) ⌝ }
-    ensures pixels { λ r. ⌜ new pixels ≡ emittedRun (drawFrom mode uniform cull scissor geometry vertices present indices) width height (before colors coverages marks) first (old pixels) (old masks) .pixels ⌝ }
-    ensures masks { λ r. ⌜ new masks ≡ emittedRun (drawFrom mode uniform cull scissor geometry vertices present indices) width height (before colors coverages marks) first (old pixels) (old masks) .masks ⌝ }
+    ensures answer { λ r.
+        let d = drawFrom mode uniform cull scissor geometry vertices present indices in
+        ⌜ r ≡ listedAnswer (emittedRun d width height (before colors coverages marks) first (old pixels) (old masks)) ⌝ }
+    ensures pixels { λ r.
+        let d = drawFrom mode uniform cull scissor geometry vertices present indices in
+        ⌜ new pixels ≡ emittedRun d width height (before colors coverages marks) first (old pixels) (old masks) .pixels ⌝ }
+    ensures masks { λ r.
+        let d = drawFrom mode uniform cull scissor geometry vertices present indices in
+        ⌜ new masks ≡ emittedRun d width height (before colors coverages marks) first (old pixels) (old masks) .masks ⌝ }
 {
     c_frame::emitted::emitted_pixels(
         width,

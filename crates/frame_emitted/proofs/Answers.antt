@@ -1,5 +1,5 @@
--- The answers follow from the draw's plan: its number where it is turned away, and else the list that the draw would carry out, of which the masks alone are listed. And
--- where an answer's mask is 0: past the last pixel alone. Assumes nothing.
+-- The answers follow from the draw's plan: its number where it is turned away, and else the list that the draw would carry out, of which the masks alone are listed. Assumes
+-- nothing.
 use Prim.Native.Nat.{ℕ, zero, suc, _+_, _-_, _*_, _/_, _≤_, _<_, min}
 use mathlib.Core.Path.{_≡_, refl, sym, ap, subst, _∙_}
 use mathlib.Core.Bool.{Bool, true, false, cond}
@@ -35,9 +35,10 @@ use Rattle.frame_draw.proofs.Plans.{number-of, accepted-plan, drawable}
 use Rattle.frame_emitted.specs.declared.Emitted.{Emitted}
 use Rattle.frame_emitted.specs.declared.Emitted.the-variants as emitted
 use Rattle.frame_emitted.specs.declared.Listed.the-variants as listed
-use Rattle.frame_emitted.specs.Emitted.{PixelAnswer, refusedPixel, pixelOf, pixelMeans, NumberedPixel, pixelBy, emittedAnswer}
-use Rattle.frame_emitted.specs.Run.{RunAnswer, runMeans, NumberedRun, singles, runRefusal, runBy, emittedRun}
-use Rattle.frame_emitted.specs.Places.{lastCount, ListedAll}
+use Rattle.frame_emitted.specs.Emitted.{PixelAnswer, withoutPixel, pixelOf, pixelMeans, NumberedPixel, pixelBy, emittedAnswer}
+use Rattle.frame_emitted.specs.Run.{PixelsAnswer, pixelsMeans, NumberedPixels, singles, pixelsRefusal, pixelsBy, emittedRun}
+use Rattle.frame_emitted.specs.Places.{largestCount, FoundAt, ListedAll}
+use Rattle.frame_emitted.proofs.Ends.{pixel-there}
 
 -- the masks that the code lists
 abbrev masksOf : DrawArgs → ℕ → ℕ → List Masked
@@ -54,18 +55,18 @@ module _ (d : DrawArgs) (w h : ℕ) (f : Frame) (r : Accepted) (e : planBy d w h
     pixel-refused k = (ap (λ (p : Plan). pixelBy p k) refused-plan, number-of d w h f refused-plan)
 
     pub run-refused :
-        (first : ℕ) (ps ms : List ℕ) → (runMeans (listed.Refused n) ps ms ≡ emittedRun d w h f first ps ms) × NumberedRun (listed.Refused n)
+        (first : ℕ) (ps ms : List ℕ) → (pixelsMeans (listed.Refused n) ps ms ≡ emittedRun d w h f first ps ms) × NumberedPixels (listed.Refused n)
     unfolding emittedRun drawAnswer
     run-refused first ps ms =
         let l = number-of d w h f refused-plan in (
           go n l (cond (eqb (length ps) (length ms)) 0 20) _
-              ∙ (λ i. runBy (orElse (answerBy (refused-plan i) .number) (cond (eqb (length ps) (length ms)) 0 20)) first (answerBy (refused-plan i) .pixels) (singles d w h f first (length ms)) ps ms),
+              ∙ (λ i. pixelsBy (orElse (answerBy (refused-plan i) .number) (cond (eqb (length ps) (length ms)) 0 20)) first (answerBy (refused-plan i) .pixels) (singles d w h f first (length ms)) ps ms),
           l,
         )
       where
         go :
             (n : ℕ) → 1 ≤ n → (next : ℕ) (answers : List PixelAnswer)
-            → runMeans (listed.Refused n) ps ms ≡ runBy (orElse n next) first 0 answers ps ms
+            → pixelsMeans (listed.Refused n) ps ms ≡ pixelsBy (orElse n next) first 0 answers ps ms
         go zero l next answers = absurd (omega arith)
         go (suc n) l next answers = refl
 
@@ -83,7 +84,7 @@ module _ (d : DrawArgs) (w h : ℕ) (f : Frame) (r : Accepted) (e : planBy d w h
     masks-are =
         geometry-masks x (mixedBy (resolvedOf x)) (drawable d w h f r e er .0 .1) (d .mode) (d .cull) (d .scissor) w h (d .vertices) (d .present) (d .indices) (d .geometry)
 
-    few : length es ≤ lastCount
+    few : length es ≤ largestCount
     unfolding es
     few =
         let y = drawable d w h f r e er in
@@ -91,7 +92,7 @@ module _ (d : DrawArgs) (w h : ℕ) (f : Frame) (r : Accepted) (e : planBy d w h
         omega (arith, geometry-most (d .scissor) (z .width-small) (z .height-small) (d .mode) x (d .cull) (d .vertices) (d .present) (d .indices) (d .geometry), y .0 .0)
 
     -- what the code needs of the draw
-    pub listable : Sized (d .scissor) w h × ((d .geometry ≡ Triangles → TrianglesNear (d .vertices) (d .present) (d .indices)) × (length (masksOf d w h) ≤ lastCount))
+    pub listable : Sized (d .scissor) w h × ((d .geometry ≡ Triangles → TrianglesNear (d .vertices) (d .present) (d .indices)) × (length (masksOf d w h) ≤ largestCount))
     listable =
         let y = drawable d w h f r e er in (
           y .1 .1 .0,
@@ -105,18 +106,31 @@ module _ (d : DrawArgs) (w h : ℕ) (f : Frame) (r : Accepted) (e : planBy d w h
     unfolding emittedAnswer es
     answer-at k = ap (λ (l : List Masked). pixelOf (getD l k noPixel)) (sym masks-are) ∙ ap (λ (p : Plan). pixelBy p k) plan
 
+    -- the count that `draw` would answer
+    count-is : length (masksOf d w h) ≡ drawAnswer d w h f .pixels
+    unfolding drawAnswer es
+    count-is = ap length (sym masks-are) ∙ length-map es maskedOf ∙ ap (λ (p : Plan). answerBy p .pixels) plan
+
     pub pixel-accepted :
-        (a : Emitted) (k : ℕ) → pixelMeans a ≡ pixelOf (getD (masksOf d w h) k noPixel) → pixelMeans a ≡ emittedAnswer d w h f k
-    pixel-accepted a k p = p ∙ answer-at k
+        (a : Emitted) (k : ℕ) → pixelMeans a ≡ pixelOf (getD (masksOf d w h) k noPixel) → FoundAt (masksOf d w h) k a
+        → (pixelMeans a ≡ emittedAnswer d w h f k) × NumberedPixel a
+    pixel-accepted a k p q = let e = p ∙ answer-at k in (e, right a e q)
+      where
+        right : (a : Emitted) → pixelMeans a ≡ emittedAnswer d w h f k → FoundAt (masksOf d w h) k a → NumberedPixel a
+        right (emitted.Pixel p m) e q =
+            let t = pixel-there d w h f k (omega (arith, count-is)) in
+            omega (arith, t .1, ap (λ (x : PixelAnswer). x .mask) e)
+        right emitted.Past e q = tt
+        right (emitted.Refused n) e q = absurd q
 
     -- slices of two lengths
     pub run-unequal :
         (first : ℕ) (ps ms : List ℕ) → (length ps ≡ length ms → ⊥)
-        → (runMeans (listed.Refused 20) ps ms ≡ emittedRun d w h f first ps ms) × NumberedRun (listed.Refused 20)
+        → (pixelsMeans (listed.Refused 20) ps ms ≡ emittedRun d w h f first ps ms) × NumberedPixels (listed.Refused 20)
     unfolding emittedRun drawAnswer
     run-unequal first ps ms n = (
-      (λ i. runBy (cond (sym (ne-eqb (length ps) (length ms) n) i) 0 20) first (length es) (singles d w h f first (length ms)) ps ms)
-          ∙ (λ i. runBy (orElse (answerBy (plan i) .number) (cond (eqb (length ps) (length ms)) 0 20)) first (answerBy (plan i) .pixels) (singles d w h f first (length ms)) ps ms),
+      (λ i. pixelsBy (cond (sym (ne-eqb (length ps) (length ms) n) i) 0 20) first (length es) (singles d w h f first (length ms)) ps ms)
+          ∙ (λ i. pixelsBy (orElse (answerBy (plan i) .number) (cond (eqb (length ps) (length ms)) 0 20)) first (answerBy (plan i) .pixels) (singles d w h f first (length ms)) ps ms),
       omega arith,
     )
 
@@ -124,7 +138,7 @@ module _ (d : DrawArgs) (w h : ℕ) (f : Frame) (r : Accepted) (e : planBy d w h
     module _ {first n : ℕ} {ms ps′ ms′ : List ℕ} (l : ListedAll (masksOf d w h) first n ms ps′ ms′) where
       column :
           (of : PixelAnswer → ℕ) (xs : List ℕ) → length xs ≡ length ms
-          → ((i : ℕ) → i < length ms → getD xs i 0 ≡ of (emittedAnswer d w h f (first + i))) → of (refusedPixel 0) ≡ 0
+          → ((i : ℕ) → i < length ms → getD xs i 0 ≡ of (emittedAnswer d w h f (first + i))) → of (withoutPixel 0) ≡ 0
           → xs ≡ map of (singles d w h f first (length ms))
       column of xs long at zero-of =
           let answer = emittedAnswer d w h f in
@@ -133,8 +147,8 @@ module _ (d : DrawArgs) (w h : ℕ) (f : Frame) (r : Accepted) (e : planBy d w h
           ext-getD 0 xs (map of all) (long ∙ sym short) (λ i p.
           let q : i < length ms = omega arith in
           at i q
-          ∙ sym (ap of (each-at answer (refusedPixel 0) first (length ms) i q))
-          ∙ sym (List·getD-map of all i (refusedPixel 0))
+          ∙ sym (ap of (each-at answer (withoutPixel 0) first (length ms) i q))
+          ∙ sym (List·getD-map of all i (withoutPixel 0))
           ∙ ap (λ (z : ℕ). getD (map of all) i z) zero-of)
 
       slot-at : (i : ℕ) → i < length ms → record { number = 0; pixel = getD ps′ i 0; mask = getD ms′ i 0 } ≡ emittedAnswer d w h f (first + i)
@@ -142,7 +156,7 @@ module _ (d : DrawArgs) (w h : ℕ) (f : Frame) (r : Accepted) (e : planBy d w h
 
       pub run-accepted :
           (ps : List ℕ) {m : ℕ} → length ps ≡ length ms → m ≡ min (length ms′) (n - first)
-          → (runMeans (listed.Pixels m n) ps′ ms′ ≡ emittedRun d w h f first ps ms) × NumberedRun (listed.Pixels m n)
+          → (pixelsMeans (listed.Pixels m n) ps′ ms′ ≡ emittedRun d w h f first ps ms) × NumberedPixels (listed.Pixels m n)
       unfolding emittedRun drawAnswer
       run-accepted ps {m} equal em =
           let count : n ≡ length es = l .count ∙ ap length (sym masks-are) ∙ length-map es maskedOf in
@@ -150,7 +164,7 @@ module _ (d : DrawArgs) (w h : ℕ) (f : Frame) (r : Accepted) (e : planBy d w h
           let pixels = column (λ (a : PixelAnswer). a .pixel) ps′ (l .pixels-long) (λ i p. ap (λ (a : PixelAnswer). a .pixel) (slot-at i p)) refl in
           let masks = column (λ (a : PixelAnswer). a .mask) ms′ (l .masks-long) (λ i p. ap (λ (a : PixelAnswer). a .mask) (slot-at i p)) refl in (
             (λ i. record { number = 0; listed = slots i; emitted = count i; pixels = pixels i; masks = masks i })
-                ∙ (λ i. runBy (cond (sym (eq-eqb (length ps) (length ms) equal) i) 0 20) first (length es) (singles d w h f first (length ms)) ps ms)
-                ∙ (λ i. runBy (orElse (answerBy (plan i) .number) (cond (eqb (length ps) (length ms)) 0 20)) first (answerBy (plan i) .pixels) (singles d w h f first (length ms)) ps ms),
+                ∙ (λ i. pixelsBy (cond (sym (eq-eqb (length ps) (length ms) equal) i) 0 20) first (length es) (singles d w h f first (length ms)) ps ms)
+                ∙ (λ i. pixelsBy (orElse (answerBy (plan i) .number) (cond (eqb (length ps) (length ms)) 0 20)) first (answerBy (plan i) .pixels) (singles d w h f first (length ms)) ps ms),
             tt,
           )

@@ -12,7 +12,7 @@ use Rattle.frame.specs.Frame.{Frame}
 use Rattle.frame_draw.specs.Draw.{DrawArgs, Plan, DrawAnswer}
 use Rattle.frame_draw.proofs.Frames.{plan-same, draw-same}
 use Rattle.frame_emitted.specs.Emitted.{PixelAnswer, pixelBy, emittedAnswer}
-use Rattle.frame_emitted.specs.Run.{singles, runRefusal, runBy, emittedRun}
+use Rattle.frame_emitted.specs.Run.{singles, pixelsRefusal, pixelsBy, emittedRun}
 
 module _ (d : DrawArgs) (w h : ℕ) (f g : Frame) (e : frameRefusal f w h ≡ frameRefusal g w h) where
   pub pixel-same : (k : ℕ) → emittedAnswer d w h f k ≡ emittedAnswer d w h g k
@@ -25,4 +25,4 @@ module _ (d : DrawArgs) (w h : ℕ) (f g : Frame) (e : frameRefusal f w h ≡ fr
       let drawn = draw-same d w h f g e in
       let all : singles d w h f first (length ms) ≡ singles d w h g first (length ms) =
       from-same (λ (k : ℕ). emittedAnswer d w h f k ∷ []) (λ (k : ℕ). emittedAnswer d w h g k ∷ []) first (first + length ms) (λ k p q i. pixel-same k i ∷ []) in
-      (λ i. runBy (orElse (drawn i .number) (cond (eqb (length ps) (length ms)) 0 20)) first (drawn i .pixels) (all i) ps ms)
+      (λ i. pixelsBy (orElse (drawn i .number) (cond (eqb (length ps) (length ms)) 0 20)) first (drawn i .pixels) (all i) ps ms)

@@ -7,24 +7,28 @@ use native.Mathlib.Omega.{arith}
 use lib.ListN.{length, getD, List·getD-eq-default}
 use Rattle.raster_emitted.specs.declared.slots.Window.{Window}
 use Rattle.raster_emitted.specs.Masked.{Masked, noPixel}
-use Rattle.raster_emitted.specs.Listed.{Slots, slotsOf, slotAt, Listed, Filled}
+use Rattle.raster_emitted.specs.Listed.{Slots, slotsOf, slotAt, ListedPart, Filled}
 use Rattle.frame_emitted.specs.Emitted.{pixelOf}
-use Rattle.frame_emitted.specs.Places.{lastCount, ListedAll}
+use Rattle.frame_emitted.specs.Places.{largestCount, ListedAll}
 
 -- ---- pixel k in slot 0
-module _ {es : List Masked} (v : Window) {n k : ℕ} {s t : Slots} (first : v .first ≡ k) (limit : v .limit ≡ min lastCount (k + 1)) (few : length es ≤ lastCount) (d : Listed v es 0 n s t) where
+module _ {es : List Masked} (v : Window) {n k : ℕ} {s t : Slots} (first : v .first ≡ k) (limit : v .limit ≡ min largestCount (k + 1)) (few : length es ≤ largestCount) (d : ListedPart v es 0 n s t) where
   pub found : 0 < length (s .masks) → k < n → pixelOf (slotAt t 0) ≡ pixelOf (getD es k noPixel)
   found l h =
       let e : v .first + 0 - 0 ≡ k = omega arith in
       ap pixelOf (d .there 0 l (omega arith) (omega arith) ∙ ap (λ (j : ℕ). getD es j noPixel) e)
+
+  -- the count has come past k only where there is a k-th
+  pub there : k < n → k < length es
+  there h = omega (arith, d .count)
 
   pub past : n ≤ k → pixelOf noPixel ≡ pixelOf (getD es k noPixel)
   past h = ap pixelOf (sym (List·getD-eq-default es noPixel (omega (arith, d .count))))
 
 -- ---- a run
 pub run-listed :
-    {es : List Masked} (v : Window) {n m : ℕ} {s t : Slots} {ps ms : List ℕ} → length (s .pixels) ≡ length (s .masks) → v .limit ≡ lastCount → length es ≤ lastCount
-    → Listed v es 0 n s t → m ≡ min (length (t .masks)) (n - v .first) → Filled (λ (i : ℕ). 0) 0 m (length (t .masks)) t (slotsOf ps ms)
+    {es : List Masked} (v : Window) {n m : ℕ} {s t : Slots} {ps ms : List ℕ} → length (s .pixels) ≡ length (s .masks) → v .limit ≡ largestCount → length es ≤ largestCount
+    → ListedPart v es 0 n s t → m ≡ min (length (t .masks)) (n - v .first) → Filled (λ (i : ℕ). 0) 0 m (length (t .masks)) t (slotsOf ps ms)
     → ListedAll es (v .first) n (s .masks) ps ms
 run-listed {es} v {n} {m} {s} {t} {ps} {ms} equal limit few d em c =
     record {

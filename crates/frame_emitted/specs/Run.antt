@@ -14,21 +14,21 @@ use Rattle.frame_emitted.specs.declared.Listed.the-variants.{Pixels, Ref
 use Rattle.frame_emitted.specs.Emitted.{PixelAnswer, emittedAnswer}
 
 -- the number, how many slots have a pixel, how many pixels the draw emits, and the two slices afterwards
-pub record RunAnswer : Type 0 where
+pub record PixelsAnswer : Type 0 where
   pub number : ℕ
   pub listed : ℕ
   pub emitted : ℕ
   pub pixels : List ℕ
   pub masks : List ℕ
 
-abbrev pub runMeans : Listed → List ℕ → List ℕ → RunAnswer
-runMeans (Pixels n m) ps ms = record { number = 0; listed = n; emitted = m; pixels = ps; masks = ms }
-runMeans (Refused k) ps ms = record { number = k; listed = 0; emitted = 0; pixels = ps; masks = ms }
+abbrev pub pixelsMeans : Listed → List ℕ → List ℕ → PixelsAnswer
+pixelsMeans (Pixels n m) ps ms = record { number = 0; listed = n; emitted = m; pixels = ps; masks = ms }
+pixelsMeans (Refused k) ps ms = record { number = k; listed = 0; emitted = 0; pixels = ps; masks = ms }
 
--- a run that is turned away has a number
-abbrev pub NumberedRun : Listed → Type 0
-NumberedRun (Pixels n m) = Unit
-NumberedRun (Refused k) = 1 ≤ k
+-- a refusal's number is not 0
+abbrev pub NumberedPixels : Listed → Type 0
+NumberedPixels (Pixels n m) = Unit
+NumberedPixels (Refused k) = 1 ≤ k
 
 -- the single answers to k = first up to first + n
 abbrev pub singles : DrawArgs → ℕ → ℕ → Frame → ℕ → ℕ → List PixelAnswer
@@ -38,12 +38,13 @@ singles d w h f first n = from (λ (k : ℕ). emittedAnswer d w h f k ∷ []) fi
 abbrev pub unequal : ℕ
 unequal = 20
 
-abbrev pub runRefusal : DrawArgs → ℕ → ℕ → Frame → List ℕ → List ℕ → ℕ
-runRefusal d w h f ps ms = orElse (drawAnswer d w h f .number) (cond (eqb (length ps) (length ms)) 0 unequal)
+abbrev pub pixelsRefusal : DrawArgs → ℕ → ℕ → Frame → List ℕ → List ℕ → ℕ
+pixelsRefusal d w h f ps ms = orElse (drawAnswer d w h f .number) (cond (eqb (length ps) (length ms)) 0 unequal)
 
--- accepted, a slot for each single answer; the draw's count is what `draw` would answer, and the slots that have a pixel are those before it
-abbrev pub runBy : ℕ → ℕ → ℕ → List PixelAnswer → List ℕ → List ℕ → RunAnswer
-runBy zero first emitted answers ps ms =
+-- accepted, a slot for each single answer. The draw's count is what `draw` would answer; the slots that have a pixel are the first ones, as many as the draw has from place
+-- first on (none where first is past its count), and no more than there are
+abbrev pub pixelsBy : ℕ → ℕ → ℕ → List PixelAnswer → List ℕ → List ℕ → PixelsAnswer
+pixelsBy zero first emitted answers ps ms =
     record {
       number = 0;
       listed = min (length ms) (emitted - first);
@@ -51,7 +52,7 @@ runBy zero first emitted answers ps ms =
       pixels = map (λ (a : PixelAnswer). a .pixel) answers;
       masks = map (λ (a : PixelAnswer). a .mask) answers;
     }
-runBy (suc k) first emitted answers ps ms = record { number = suc k; listed = 0; emitted = 0; pixels = ps; masks = ms }
+pixelsBy (suc k) first emitted answers ps ms = record { number = suc k; listed = 0; emitted = 0; pixels = ps; masks = ms }
 
-unfoldable pub emittedRun : DrawArgs → ℕ → ℕ → Frame → ℕ → List ℕ → List ℕ → RunAnswer
-emittedRun d w h f first ps ms = runBy (runRefusal d w h f ps ms) first (drawAnswer d w h f .pixels) (singles d w h f first (length ms)) ps ms
+unfoldable pub emittedRun : DrawArgs → ℕ → ℕ → Frame → ℕ → List ℕ → List ℕ → PixelsAnswer
+emittedRun d w h f first ps ms = pixelsBy (pixelsRefusal d w h f ps ms) first (drawAnswer d w h f .pixels) (singles d w h f first (length ms)) ps ms

@@ -11,8 +11,8 @@ ghost use Rattle.raster_emitted.specs.Shapes.{geometryMasks};
 ghost use Rattle.frame.specs.Lent.{old, new, before};
 ghost use Rattle.frame_draw.specs.Draw.{drawOf};
 ghost use Rattle.frame_emitted.specs.Emitted.{pixelMeans, pixelOf, emittedAnswer, NumberedPixel};
-ghost use Rattle.frame_emitted.specs.Run.{runMeans, emittedRun, NumberedRun};
-ghost use Rattle.frame_emitted.specs.Places.{lastCount, ListedAll};
+ghost use Rattle.frame_emitted.specs.Run.{pixelsMeans, emittedRun, NumberedPixels};
+ghost use Rattle.frame_emitted.specs.Places.{largestCount, FoundAt, ListedAll};
 use frame_draw::Accepted;
 use raster_emitted::slots::Window;
 use raster_pixel::Geometry;
@@ -36,15 +36,15 @@ pub enum Listed {
 // The number of a run whose slices have not one length.
 const UNEQUAL: u8 = 20;
 
-// No draw emits as many pixels.
-const LAST: u64 = 18446744073709551615;
+// The largest count of 64 bits; no draw emits as many pixels.
+const LARGEST: u64 = 18446744073709551615;
 
 // The count at which pixel k has been passed.
 fn count_past(k: u64) -> u64
-    ensures { λ r. ⌜ r ≡ min lastCount (k + 1) ⌝ }
+    ensures { λ r. ⌜ r ≡ min largestCount (k + 1) ⌝ }
 {
-    if k == LAST {
-        return LAST;
+    if k == LARGEST {
+        return LARGEST;
     }
     k + 1
 }
@@ -64,9 +64,9 @@ fn pixel_at(
 ) -> Emitted
     requires sized { ⌜ Sized scissor width height ⌝ }
     requires near { ⌜ (geometry ≡ Triangles → TrianglesNear (now vertices) (now present) (now indices)) ⌝ }
-    requires few { ⌜ length (geometryMasks antialias cull scissor width height (now vertices) (now present) (now indices) geometry) ≤ lastCount ⌝ }
+    requires few { ⌜ length (geometryMasks antialias cull scissor width height (now vertices) (now present) (now indices) geometry) ≤ largestCount ⌝ }
     ensures { λ r. ⌜ pixelMeans r ≡ pixelOf (getD (geometryMasks antialias cull scissor width height (old vertices) (old present) (old indices) geometry) k noPixel) ⌝ }
-    ensures { λ r. ⌜ NumberedPixel r ⌝ }
+    ensures { λ r. ⌜ FoundAt (geometryMasks antialias cull scissor width height (old vertices) (old present) (old indices) geometry) k r ⌝ }
 {
     let mut pixels = [0u32; 1];
     let mut masks = [0u8; 1];
@@ -163,10 +163,13 @@ fn list_from(
     requires equal { ⌜ length (now pixels) ≡ length (now masks) ⌝ }
     requires sized { ⌜ Sized scissor width height ⌝ }
     requires near { ⌜ (geometry ≡ Triangles → TrianglesNear (now vertices) (now present) (now indices)) ⌝ }
-    requires few { ⌜ length (geometryMasks antialias cull scissor width height (now vertices) (now present) (now indices) geometry) ≤ lastCount ⌝ }
+    requires few { ⌜ length (geometryMasks antialias cull scissor width height (now vertices) (now present) (now indices) geometry) ≤ largestCount ⌝ }
     ensures { λ r. ⌜ ListedAll (geometryMasks antialias cull scissor width height (old vertices) (old present) (old indices) geometry) first r (old masks) (new pixels) (new masks) ⌝ }
 {
-    let window = Window { first, limit: LAST };
+    let window = Window {
+        first,
+        limit: LARGEST,
+    };
     let count = raster_emitted::list_pixels(
         pixels,
         masks,
@@ -206,8 +209,10 @@ pub fn emitted_pixels(
     pixels: &mut [u32],
     masks: &mut [u8],
 ) -> Listed
-    ensures answer { λ r. ⌜ runMeans r (new pixels) (new masks) ≡ emittedRun (drawOf mode uniform cull scissor geometry vertices present indices) width height (before colors coverages marks) first (old pixels) (old masks) ⌝ }
-    ensures number { λ r. ⌜ NumberedRun r ⌝ }
+    ensures answer { λ r.
+        let d = drawOf mode uniform cull scissor geometry vertices present indices in
+        ⌜ pixelsMeans r (new pixels) (new masks) ≡ emittedRun d width height (before colors coverages marks) first (old pixels) (old masks) ⌝ }
+    ensures number { λ r. ⌜ NumberedPixels r ⌝ }
 {
     match frame_draw::accept(
         width,

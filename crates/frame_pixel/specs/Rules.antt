@@ -20,7 +20,7 @@ use Rattle.frame_pixel.specs.declared.Colors.{Colors}
 use Rattle.blender.specs.declared.Source.{Source}
 use Rattle.frame_pixel.specs.Marks.{colorMarked, coverageOf, unknown, markOf}
 
--- F1: `color_known`, asked with the pixel's alpha, its count, the coverage if it is marked, and whether the colour is marked
+-- F1: `color_known`, asked with the pixel's alpha, its count (its mask's number of ones), the coverage if it is marked, and whether the colour is marked
 unfoldable pub ruleF1 : RenderMode → Source → Coverage → Bool → Bool
 ruleF1 mode s coverage marked = colorKnown mode (s .color .a) (s .count) coverage marked
 

@@ -10,7 +10,7 @@ use Rattle.raster_pixel.proofs.Parts.{each-length, each-at}
 use Rattle.raster_emitted.specs.declared.slots.Window.{Window}
 use Rattle.raster_emitted.specs.Masked.{Masked, noPixel}
 use Rattle.raster_emitted.specs.Shapes.{runMasks}
-use Rattle.raster_emitted.specs.Listed.{Slots, slotsOf, slotAt, Filled, Listed}
+use Rattle.raster_emitted.specs.Listed.{Slots, slotsOf, slotAt, Filled, ListedPart}
 
 -- ---- the pixels of a run
 abbrev spot : ℕ → ℕ → Masked
@@ -59,7 +59,7 @@ module _ (v : Window) (p count : ℕ) {n mask : ℕ} {before after : Slots} wher
   pub run-listed :
       {m lo hi : ℕ} → n ≤ v .limit → m ≡ min (v .limit) (n + count) → lo ≡ min (length (before .masks)) (n - v .first)
       → hi ≡ min (length (before .masks)) (m - v .first)
-      → Filled (λ (i : ℕ). p + (v .first + i - n)) mask lo hi before after → Listed v (runMasks mask p (p + count)) n m before after
+      → Filled (λ (i : ℕ). p + (v .first + i - n)) mask lo hi before after → ListedPart v (runMasks mask p (p + count)) n m before after
   run-listed {m} {lo} {hi} h em el eh d =
       record {
         within = h;

@@ -26,7 +26,7 @@ pub record Ready (v : Window) (n : ℕ) (s : Slots) : Type 0 where
   pub matched : length (s .pixels) ≡ length (s .masks)
 
 -- what the pixels es do, of which the first is the draw's n-th: they are counted, up to the window's end, and pixel first + i goes to slot i
-pub record Listed (v : Window) (es : List Masked) (n m : ℕ) (before after : Slots) : Type 0 where
+pub record ListedPart (v : Window) (es : List Masked) (n m : ℕ) (before after : Slots) : Type 0 where
   pub within : n ≤ v .limit
   pub count : m ≡ min (v .limit) (n + length es)
   pub pixels : length (after .pixels) ≡ length (before .pixels)
@@ -40,7 +40,7 @@ abbrev pub ReadyIn : Window → ℕ → RefT (List ℕ) → RefT (List ℕ) → 
 ReadyIn v n pixels masks = Ready v n (slotsOf (now pixels) (now masks))
 
 abbrev pub ListedIn : Window → List Masked → ℕ → ℕ → Both (RefT (List ℕ)) (RefT (List ℕ)) → Both (RefT (List ℕ)) (RefT (List ℕ)) → Type 0
-ListedIn v es n m pixels masks = Listed v es n m (slotsOf (now (pixels .entry)) (now (masks .entry))) (slotsOf (now (pixels .exit)) (now (masks .exit)))
+ListedIn v es n m pixels masks = ListedPart v es n m (slotsOf (now (pixels .entry)) (now (masks .entry))) (slotsOf (now (pixels .exit)) (now (masks .exit)))
 
 -- slots lo to hi - 1 hold pixels of this mask, slot i that of its number, and the other slots are as before
 pub record Filled (number : ℕ → ℕ) (mask lo hi : ℕ) (before after : Slots) : Type 0 where

@@ -7,7 +7,7 @@ use Rattle.frame_draw.specs.Draw.{DrawArgs, DrawAnswer, drawAnswer, drawFrame}
 use Rattle.words_read.specs.Read.{ReadArgs, WordAnswer, readAnswer}
 use Rattle.words_run.specs.Run.{RunAnswer, runAnswer}
 use Rattle.frame_emitted.specs.Emitted.{PixelAnswer, emittedAnswer}
-use Rattle.frame_emitted.specs.Run as emitted
+use Rattle.frame_emitted.specs.Run.{PixelsAnswer, emittedRun}
 
 -- a call, with all its arguments but the frame
 pub data Call : Type 0 where
@@ -27,7 +27,7 @@ pub data Answer : Type 0 where
   word : WordAnswer → Answer
   run : RunAnswer → Answer
   masked : PixelAnswer → Answer
-  listed : emitted.RunAnswer → Answer
+  listed : PixelsAnswer → Answer
 
 module _ (w h : ℕ) where
   abbrev pub answerTo : Call → Frame → Answer
@@ -35,9 +35,9 @@ module _ (w h : ℕ) where
   answerTo (Call.read a) f = Answer.word (readAnswer a w h f)
   answerTo (Call.reads a ws ns) f = Answer.run (runAnswer a w h f ws ns)
   answerTo (Call.pixel d k) f = Answer.masked (emittedAnswer d w h f k)
-  answerTo (Call.pixels d first ps ms) f = Answer.listed (emitted.emittedRun d w h f first ps ms)
+  answerTo (Call.pixels d first ps ms) f = Answer.listed (emittedRun d w h f first ps ms)
 
-  -- only an accepted draw writes
+  -- only an accepted draw writes the frame; the slices that a run writes are a part of its answer
   abbrev pub frameAfter : Call → Frame → Frame
   frameAfter (Call.draw d) f = drawFrame d w h f
   frameAfter (Call.read a) f = f

@@ -32,7 +32,7 @@ use Rattle.frame_draw.proofs.Frames.{plan-same, draw-same, draw-refusal}
 use Rattle.words_read.specs.Read.{ReadArgs, writerOf, readable, wordRefusal, readRefusal, wordOf, wordOr, readAnswer}
 use Rattle.words_run.specs.Run.{entryOf, runAnswer}
 use Rattle.frame_emitted.specs.Emitted.{PixelAnswer, emittedAnswer}
-use Rattle.frame_emitted.specs.Run as emitted
+use Rattle.frame_emitted.specs.Run.{PixelsAnswer, emittedRun}
 use Rattle.frame_emitted.proofs.Frames.{pixel-same, pixels-same}
 use Rattle.theorem_calls.specs.Calls.{Call, Answer, answerTo, frameAfter, answers, frameAfterAll}
 use Rattle.theorem_truth.specs.Truth.{TellsAnswer, Tells, Truth}
@@ -87,7 +87,7 @@ module _ (w h : ℕ) where
       }
   keeps (Call.pixels d first ps ms) =
       record {
-        tells = λ g f a. subst (λ (v : emitted.RunAnswer). TellsAnswer (Answer.listed v) (Answer.listed (emitted.emittedRun d w h f first ps ms))) (sym (pixels-same d w h g f (a .numbers) first ps ms)) TellsAnswer.listed;
+        tells = λ g f a. subst (λ (v : PixelsAnswer). TellsAnswer (Answer.listed v) (Answer.listed (emittedRun d w h f first ps ms))) (sym (pixels-same d w h g f (a .numbers) first ps ms)) TellsAnswer.listed;
         knows = λ g f a. a;
       }
 

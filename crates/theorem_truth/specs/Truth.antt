@@ -10,7 +10,7 @@ use Rattle.frame_draw.specs.Draw.{DrawAnswer}
 use Rattle.words_read.specs.Read.{WordAnswer, noWord, wordOr}
 use Rattle.words_run.specs.Run.{RunAnswer, entryOf}
 use Rattle.frame_emitted.specs.Emitted.{PixelAnswer}
-use Rattle.frame_emitted.specs.Run as emitted
+use Rattle.frame_emitted.specs.Run.{PixelsAnswer}
 use Rattle.theorem_calls.specs.Calls.{Call, Answer, answers, frameAfterAll}
 
 -- ---- an answer b, on g, tells at least what the answer a, on f, tells
@@ -39,7 +39,7 @@ pub data TellsAnswer : Answer → Answer → Type 0 where
   word : {b a : WordAnswer} → TellsWord b a → TellsAnswer (Answer.word b) (Answer.word a)
   run : {b a : RunAnswer} → TellsRun b a → TellsAnswer (Answer.run b) (Answer.run a)
   masked : {a : PixelAnswer} → TellsAnswer (Answer.masked a) (Answer.masked a)
-  listed : {a : emitted.RunAnswer} → TellsAnswer (Answer.listed a) (Answer.listed a)
+  listed : {a : PixelsAnswer} → TellsAnswer (Answer.listed a) (Answer.listed a)
 
 -- so for each call of a list
 pub data Tells : List Answer → List Answer → Type 0 where

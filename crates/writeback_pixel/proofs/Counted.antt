@@ -32,7 +32,7 @@ pub by-count :
     → checked (maskOk m && others) (value (onesOf m)) none ≡ counted others value none (onesOf m)
 by-count m h others value none = λ i. checked (same-ok m h i && others) (value (onesOf m)) none
 
--- a count from 1 to 8 is still asked, by the mask of as many of the lowest bits
+-- Every count from 1 to 8 can be asked: by the mask of as many of the lowest bits.
 pub count-kept :
     (n : ℕ) → 1 ≤ n → n ≤ 8 → {A : Type 0} (others : Bool) (value : ℕ → A) (none : A)
     → (let m = 2 ^ n - 1 in checked (maskOk m && others) (value (onesOf m)) none) ≡ counted others value none n

@@ -31,7 +31,7 @@ returns-2 c =
     let t = c .before in
     let p = t .before .before in
     let a = p .before .before .before .before .before .before .before .args in
-    (pixel-accepted (drawArgs (a .mode) (a .uniform) (a .cull) (a .scissor) (a .geometry) (now (a .vertices)) (now (a .present)) (now (a .indices))) _ _ _ _ (p .accept .ensures) (t .enum-told .given .1) (c .pixel-at .result) _ (c .pixel-at .ensures .0), c .pixel-at .ensures .1)
+    pixel-accepted (drawArgs (a .mode) (a .uniform) (a .cull) (a .scissor) (a .geometry) (now (a .vertices)) (now (a .present)) (now (a .indices))) _ _ _ _ (p .accept .ensures) (t .enum-told .given .1) (c .pixel-at .result) _ (c .pixel-at .ensures .0) (c .pixel-at .ensures .1)
 
 pub emitted-pixel-spec : {M : Type 1} → statement M
 emitted-pixel-spec =

@@ -2,7 +2,7 @@
 use borrow.Author.Needs.{needs}
 use mathlib.Core.Path.{refl}
 use native.Mathlib.Omega.{arith}
-use Rattle.frame_emitted.proofs.Slots.{found, past}
+use Rattle.frame_emitted.proofs.Slots.{found, there, past}
 use Rattle.frame_emitted.proofs.pixel_at.Statement.{statement}
 use Rattle.frame_emitted.proofs.pixel_at.Tie as tie
 
@@ -35,8 +35,10 @@ returns-2 : tie.Need-returns-2
 returns-2 c =
     let l = c .before .before .before in
     let p = l .before .before .before in
-    let s = p .before .before .before .before in
-    (found _ refl (p .count-past .ensures) (s .pre .1 .1) (l .list-pixels .ensures) (omega arith) (omega (arith, c .if1 .left)), tt)
+    let s = p .before .before .before .before in (
+      found _ refl (p .count-past .ensures) (s .pre .1 .1) (l .list-pixels .ensures) (omega arith) (omega (arith, c .if1 .left)),
+      there _ refl (p .count-past .ensures) (s .pre .1 .1) (l .list-pixels .ensures) (omega (arith, c .if1 .left)),
+    )
 
 pub pixel-at-spec : {M : Type 1} → statement M
 pixel-at-spec =

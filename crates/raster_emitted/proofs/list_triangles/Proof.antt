@@ -4,14 +4,14 @@ use native.Mathlib.Omega.{arith}
 use Rattle.raster_pixel.specs.Admitted.{triangleAt}
 use Rattle.raster_pixel.specs.Parts.{from}
 use Rattle.raster_emitted.specs.Shapes.{threeMasks}
-use Rattle.raster_emitted.specs.Listed.{slotsOf, Listed}
+use Rattle.raster_emitted.specs.Listed.{slotsOf, ListedPart}
 use Rattle.raster_emitted.proofs.Listing.{ready-now, listing-start, listing-more, listing-stop, listing-done}
 use Rattle.raster_emitted.proofs.list_triangles.Statement.{statement}
 use Rattle.raster_emitted.proofs.list_triangles.Tie as tie
 
 abbrev Inv-loop : tie.InvT-loop
 Inv-loop pixels₀ masks₀ window antialias cull scissor width height vertices present indices count m₀ i₀ pixels masks m i =
-    (i ≤ count) × Listed window (from (λ (i : ℕ). threeMasks antialias cull scissor width height (triangleAt vertices present indices i)) 0 i) 0 m (slotsOf pixels₀ masks₀) (slotsOf pixels masks)
+    (i ≤ count) × ListedPart window (from (λ (i : ℕ). threeMasks antialias cull scissor width height (triangleAt vertices present indices i)) 0 i) 0 m (slotsOf pixels₀ masks₀) (slotsOf pixels masks)
 
 abbrev μ-loop : tie.MeasureT-loop
 μ-loop pixels₀ masks₀ window antialias cull scissor width height vertices present indices count m₀ i₀ pixels masks m i = count - i

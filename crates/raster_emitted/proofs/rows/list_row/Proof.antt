@@ -3,14 +3,14 @@ use Prim.Native.Nat.{_-_, _≤_}
 use native.Mathlib.Omega.{arith}
 use Rattle.raster_pixel.specs.Parts.{from}
 use Rattle.raster_emitted.specs.Shapes.{rowMasks}
-use Rattle.raster_emitted.specs.Listed.{slotsOf, Listed}
+use Rattle.raster_emitted.specs.Listed.{slotsOf, ListedPart}
 use Rattle.raster_emitted.proofs.Listing.{ready-now, listing-start, listing-by, listing-stop, listing-done}
 use Rattle.raster_emitted.proofs.rows.list_row.Statement.{statement}
 use Rattle.raster_emitted.proofs.rows.list_row.Tie as tie
 
 abbrev Inv-loop : tie.InvT-loop
 Inv-loop pixels₀ masks₀ window n antialias edges width y start end full m₀ x₀ pixels masks m x =
-    (start ≤ x) × (x ≤ end) × Listed window (from (rowMasks antialias edges width y) start x) n m (slotsOf pixels₀ masks₀) (slotsOf pixels masks)
+    (start ≤ x) × (x ≤ end) × ListedPart window (from (rowMasks antialias edges width y) start x) n m (slotsOf pixels₀ masks₀) (slotsOf pixels masks)
 
 abbrev μ-loop : tie.MeasureT-loop
 μ-loop pixels₀ masks₀ window n antialias edges width y start end full m₀ x₀ pixels masks m x = end - x

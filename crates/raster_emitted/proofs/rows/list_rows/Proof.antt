@@ -3,7 +3,7 @@ use Prim.Native.Nat.{_-_, _≤_}
 use native.Mathlib.Omega.{arith}
 use Rattle.raster_pixel.specs.Parts.{from}
 use Rattle.raster_emitted.specs.Shapes.{lineMasks}
-use Rattle.raster_emitted.specs.Listed.{slotsOf, Listed}
+use Rattle.raster_emitted.specs.Listed.{slotsOf, ListedPart}
 use Rattle.raster_emitted.proofs.Lines.{row-kept}
 use Rattle.raster_emitted.proofs.Listing.{listed-as, ready-now, listing-start, listing-more, listing-stop, listing-done}
 use Rattle.raster_emitted.proofs.rows.list_rows.Statement.{statement}
@@ -11,7 +11,7 @@ use Rattle.raster_emitted.proofs.rows.list_rows.Tie as tie
 
 abbrev Inv-loop : tie.InvT-loop
 Inv-loop pixels₀ masks₀ window n antialias t width left right top bottom m₀ y₀ pixels masks m y =
-    (top ≤ y) × (y ≤ bottom) × Listed window (from (lineMasks antialias t width left right) top y) n m (slotsOf pixels₀ masks₀) (slotsOf pixels masks)
+    (top ≤ y) × (y ≤ bottom) × ListedPart window (from (lineMasks antialias t width left right) top y) n m (slotsOf pixels₀ masks₀) (slotsOf pixels masks)
 
 abbrev μ-loop : tie.MeasureT-loop
 μ-loop pixels₀ masks₀ window n antialias t width left right top bottom m₀ y₀ pixels masks m y = bottom - y
