@@ -338,7 +338,7 @@ fn is_known(memory: Memory) -> bool
     }
 }
 
-fn color_or_zeros(memory: Memory) -> Rgba
+pub fn color_or_zeros(memory: Memory) -> Rgba
     ensures { λ r. ⌜ r ≡ orZeros memory ⌝ }
 {
     match memory {
@@ -352,7 +352,7 @@ fn color_or_zeros(memory: Memory) -> Rgba
     }
 }
 
-fn coverage_or_zero(coverage: Coverage) -> u8
+pub fn coverage_or_zero(coverage: Coverage) -> u8
     ensures { λ r. ⌜ r ≡ orZero coverage ⌝ }
 {
     match coverage {

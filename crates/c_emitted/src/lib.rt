@@ -9,6 +9,7 @@ use raster_pixel::Geometry;
 use raster_pixel::Three;
 use raster_rectangle::Sides;
 use raster_vertex::Vertex;
+use rasterize_slow::Shape;
 
 // No frame is wider or higher.
 const LIMIT: u32 = 1024;
@@ -30,17 +31,8 @@ fn triangle(
     if raster_admitted::out_of_range(a, b, c) {
         return Fragment::Empty;
     }
-    if raster_vertex::culled(cull, a, b, c) {
-        return Fragment::Empty;
-    }
-    let v = raster_vertex::sort([a, b, c]);
-    let q = raster_pixel::corners(v);
-    if raster_edges::quarter_area(q) == 0 {
-        return Fragment::Empty;
-    }
-    let t = raster_edges::setup(q);
-    let e = raster_edges::edges_at(t, y);
-    raster_pixel::triangle_pixel(antialias, combiner, v, e, y, x)
+    let shape = rasterize_slow::triangle(cull, a, b, c);
+    rasterize_slow::pixel(antialias, combiner, shape, y, x)
 }
 
 // Pixel (x, y) of triangle i, if there is one.
@@ -92,14 +84,13 @@ pub fn pixel(
     match geometry {
         Geometry::Nothing => Fragment::Empty,
         Geometry::Rectangle(left, top, right, bottom) => {
-            let color = combiner.color(combiner::full_shade());
             let sides = Sides {
                 left,
                 top,
                 right,
                 bottom,
             };
-            raster_pixel::rectangle_pixel(antialias, color, sides, y, x)
+            rasterize_slow::pixel(antialias, combiner, Shape::Rectangle(sides), y, x)
         }
         Geometry::Triangles => indexed(
             antialias,

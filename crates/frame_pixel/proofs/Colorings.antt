@@ -132,6 +132,17 @@ module _ (mode : RenderMode) (k : Combiner) (s : Source) (x : Pixel) where
   unfolding knownAfter
   in-doubt h = no-colored ((λ i. ruleF1 mode s (coverageAt x) (colorMarked (x .mark)) && not (h i)) ∙ and-false (ruleF1 mode s (coverageAt x) (colorMarked (x .mark))))
 
+  -- the same by F1, F2 and F3, one by one
+  pub not-known : ruleF1 mode s (coverageAt x) (colorMarked (x .mark)) ≡ false → _≡_ {A = Colored} (record { known = false; colors = ruleF4 x }) (coloredOf mode k s x)
+  unfolding knownAfter
+  not-known h = no-colored (λ i. h i && not (ruleF2 mode s (coverageAt x)))
+
+  pub was-known :
+      ruleF1 mode s (coverageAt x) (colorMarked (x .mark)) ≡ true → ruleF2 mode s (coverageAt x) ≡ false
+      → _≡_ {A = Colored} (record { known = true; colors = told }) (coloredOf mode k s x)
+  unfolding knownAfter colorsAfter
+  was-known h e = λ i. record { known = sym h i && not (sym e i); colors = cond (sym h i && not (sym e i)) told (ruleF4 x) }
+
   module _ (sure : ruleF2 mode s (coverageAt x) ≡ false) (m : Memory) (known : isKnown m ≡ colorMarked (x .mark)) (color : orZeros m ≡ memoryOf (colorMarked (x .mark)) x) where
     abbrev bytes : Bytes
     bytes = blendOf mode k (s .color) (orZeros m) (s .«shade_alpha») (s .count) (orZero (coverageAt x))

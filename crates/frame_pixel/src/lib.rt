@@ -178,6 +178,47 @@ fn blended(
     }
 }
 
+// F1 to F4, one by one.
+fn color_by_rules(
+    mode: RenderMode,
+    combiner: Combiner,
+    source: Source,
+    coverage: Coverage,
+    bytes: Pixel,
+) -> Colored
+    requires { ⌜ coverage ≡ coverageAt bytes ⌝ }
+    ensures { λ r. ⌜ r ≡ coloredOf mode combiner source bytes ⌝ }
+{
+    let color = source.color;
+    let marked = color_marked(bytes.mark);
+    if !blender::color_known(mode, color.a, source.count, coverage, marked) {
+        return kept(bytes);
+    }
+    let doubt = in_doubt(mode, source, coverage);
+    if doubt {
+        return kept(bytes);
+    }
+    let memory = blender::color_or_zeros(memory_of(marked, bytes));
+    let stored = blender::coverage_or_zero(coverage);
+    let new = blender::blend(
+        mode,
+        combiner,
+        color,
+        memory,
+        source.shade_alpha,
+        source.count,
+        stored,
+    );
+    Colored {
+        known: true,
+        colors: Colors {
+            red: new.r,
+            green: new.g,
+            blue: new.b,
+        },
+    }
+}
+
 // One channel of a layer over the memory's.
 fn over(part: f32, share: f32, byte: u8) -> u8
     ensures { λ r. ⌜ r ≡ overByte part share byte ⌝ }
@@ -286,7 +327,19 @@ fn assemble(color: Colored, coverage: Coverage, old: u8) -> Pixel
     }
 }
 
-// F1 to F5: the bytes at an emitted pixel's place after it. Numbers 1 to 3 leave no known coverage above 7.
+// F1 to F5, one by one: the bytes at an emitted pixel's place after it. Numbers 1 to 3 leave no known coverage above 7.
+pub fn rules(mode: RenderMode, combiner: Combiner, source: Source, bytes: Pixel) -> Pixel
+    requires { ⌜ (1 ≤ source .count) × (source .count ≤ 8) ⌝ ∗ ⌜ orZero (coverageAt bytes) ≤ 7 ⌝ }
+    ensures { λ r. ⌜ r ≡ pixelStep mode combiner source bytes ⌝ }
+{
+    let old = bytes.coverage;
+    let coverage = coverage_of(bytes.mark, old);
+    let color = color_by_rules(mode, combiner, source, coverage, bytes);
+    let after = next_coverage(mode, source.count, coverage);
+    assemble(color, after, old)
+}
+
+// The same, by what is known ahead of the pixel.
 pub fn step(
     mode: RenderMode,
     combiner: Combiner,

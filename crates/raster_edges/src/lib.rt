@@ -110,7 +110,7 @@ pub fn setup(v: [Corner; 3]) -> Tri
 }
 
 // What the triangle spans on a quarter line: nothing above its top or from its end.
-fn line_at(t: Tri, scan: u32) -> Span
+pub fn line_at(t: Tri, scan: u32) -> Span
     requires { ⌜ (TameTri t) × (scan ≤ 16384) ⌝ }
     ensures { λ r. ⌜ r ≡ lineOf t scan ⌝ }
 {

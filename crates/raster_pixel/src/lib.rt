@@ -1,18 +1,15 @@
-// `admitted` and the pieces of `rasterize` below its loops (writeback.rs): which triangles a draw may have, and what one pixel of a triangle or of a
-// rectangle emits.
+// `admitted` and the pieces of `rasterize` below its loops (writeback.rs): which triangles a draw may have, the pixels inside a
+// scissor, and which of them are shown.
 ghost use mathlib.Core.Path.{_≡_};
 ghost use mathlib.Core.List.{map};
 ghost use Prim.Native.Nat.{_+_, _*_, _<_, min};
 ghost use lib.ListN.{length};
 ghost use Rattle.raster_pixel.specs.Area.{Sized, areaOf};
 ghost use Rattle.raster_pixel.specs.Admitted.{triangleAt, failing, admittedOf};
-ghost use Rattle.raster_pixel.specs.Emitted.{shown, covered, cornerOf, triangleFragment, rectangleFragment};
-use combiner::Color;
+ghost use Rattle.raster_pixel.specs.Emitted.{shown, cornerOf};
 use combiner::Combiner;
 use raster_admitted::Looked;
 use raster_edges::Corner;
-use raster_edges::Edges;
-use raster_rectangle::Sides;
 use raster_vertex::Vertex;
 
 pub mod row; // the parts of a row
@@ -178,45 +175,4 @@ pub fn is_shown(antialias: bool, mask: u8) -> bool
         return true;
     }
     mask & 0x80 != 0
-}
-
-fn with_color(mask: u8, color: Color, shade_alpha: f32) -> Fragment
-    ensures { λ r. ⌜ r ≡ covered mask color «shade_alpha» ⌝ }
-{
-    let Color::Value(r, g, b, a) = color else {
-        return Fragment::Empty;
-    };
-    Fragment::Covered(mask, r, g, b, a, shade_alpha)
-}
-
-// Pixel (x, y) of a triangle: its vertices sorted, and the edges of row y.
-pub fn triangle_pixel(
-    antialias: bool,
-    combiner: Combiner,
-    v: [Vertex; 3],
-    edges: Edges,
-    y: u32,
-    x: u32,
-) -> Fragment
-    requires { ⌜ (x < 1024) × (y < 1024) ⌝ }
-    ensures { λ r. ⌜ r ≡ triangleFragment antialias combiner v edges y x ⌝ }
-{
-    let mask = raster_edges::mask(edges, x);
-    if !is_shown(antialias, mask) {
-        return Fragment::Empty;
-    }
-    let shade = raster_vertex::shade(v, x as usize, y as usize);
-    with_color(mask, combiner.color(shade), shade.a)
-}
-
-// Pixel (x, y) of a rectangle. Its colour is combined once, with the shade 1.0.
-pub fn rectangle_pixel(antialias: bool, color: Color, sides: Sides, y: u32, x: u32) -> Fragment
-    requires { ⌜ (x < 1024) × (y < 1024) ⌝ }
-    ensures { λ r. ⌜ r ≡ rectangleFragment antialias color sides y x ⌝ }
-{
-    let mask = sides.mask(x, y);
-    if !is_shown(antialias, mask) {
-        return Fragment::Empty;
-    }
-    with_color(mask, color, 1.0)
 }

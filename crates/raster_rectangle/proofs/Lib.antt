@@ -2,4 +2,3 @@
 pub mod Exact
 pub mod First
 pub mod Outlined
-pub mod Samples

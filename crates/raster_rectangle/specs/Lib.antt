@@ -1,4 +1,3 @@
 -- The definitions that the contracts of `raster_rectangle` cite.
 pub mod Rectangle
-pub mod Axes
 pub mod Outline

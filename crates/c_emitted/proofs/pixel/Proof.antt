@@ -1,22 +1,16 @@
 -- `pixel` meets its contract: a column or row too large is told first, then the three cases of a geometry. Assumes nothing.
-use Prim.Native.Nat.{ℕ}
 use mathlib.Core.Path.{_≡_, sym, ap, _∙_}
-use mathlib.Core.Bool.{Bool, false, _||_}
+use mathlib.Core.Bool.{false, _||_}
 use borrow.Author.Tests.{le-leb, lt-leb}
 use lib.Dec.{leb}
-use Rattle.combiner.specs.declared.Color.{Color}
-use Rattle.combiner.specs.Combine.{colorOf}
 use Rattle.raster_rectangle.specs.declared.Sides.{Sides}
 use Rattle.raster_pixel.specs.declared.Geometry.{Geometry}
-use Rattle.raster_pixel.specs.Emitted.{rectangleFragment}
+use Rattle.rasterize_slow.proofs.Emitted.{rectangle-fragment}
 use Rattle.raster_admitted.proofs.Choices.{taken, passed, or-first, or-next}
 use Rattle.c_emitted.specs.Emitted.{emittedGeometry, emittedPixel}
 use borrow.Author.Needs.{needs}
 use Rattle.c_emitted.proofs.pixel.Statement.{statement}
 use Rattle.c_emitted.proofs.pixel.Tie as tie
-
-recolored : (antialias : Bool) (sides : Sides) (y x : ℕ) {k l : Color} → k ≡ l → rectangleFragment antialias k sides y x ≡ rectangleFragment antialias l sides y x
-recolored antialias sides y x e = λ i. rectangleFragment antialias (e i) sides y x
 
 -- the pixel lies in the largest frame
 small : (c : tie.Else2) → (let s = c .before .before .before .before .before .args in leb 1024 (s .x) || leb 1024 (s .y) ≡ false)
@@ -47,14 +41,8 @@ enum-told c = search needs
 enum-known-geometry : tie.Need-enum-known-geometry
 enum-known-geometry c = search needs
 
-full-shade-requires : tie.Need-full-shade-requires
-full-shade-requires c κs = search needs
-
-color-requires : tie.Need-color-requires
-color-requires c κs = search needs
-
-rectangle-pixel-requires : tie.Need-rectangle-pixel-requires
-rectangle-pixel-requires c κs = search needs
+pixel-requires : tie.Need-pixel-requires
+pixel-requires c κs = search needs
 
 enum-told-2 : tie.Need-enum-told-2
 enum-told-2 c = search needs
@@ -67,10 +55,12 @@ returns-3 c = by-case (c .before .before) (c .enum-told .given .1)
 
 returns-4 : tie.Need-returns-4
 returns-4 c =
-    let w = c .before .before .before .before .before .before in
+    let g = c .before .before in
+    let w = g .before .before in
     let s = w .before .before .before .before .before .args in
-    let k = c .before .color .ensures .1 ∙ ap (colorOf (s .combiner)) (c .before .before .full-shade .ensures) in
-    c .rectangle-pixel .ensures ∙ recolored _ _ _ _ k ∙ by-case w (c .before .before .before .before .geometry .given .1)
+    let q = g .geometry .given .0 in
+    let sides : Sides = record { left = q .0; top = q .1 .0; right = q .1 .1 .0; bottom = q .1 .1 .1 .0 } in
+    c .pixel .ensures ∙ rectangle-fragment (s .antialias) (s .combiner) (s .y) (s .x) sides ∙ by-case w (g .geometry .given .1)
 
 returns-5 : tie.Need-returns-5
 returns-5 c = c .indexed .ensures ∙ by-case (c .before .before .before) (c .before .enum-told2 .given .1)
@@ -83,9 +73,7 @@ pixel-spec =
     returns-2
     enum-told
     enum-known-geometry
-    full-shade-requires
-    color-requires
-    rectangle-pixel-requires
+    pixel-requires
     enum-told-2
     indexed-requires
     returns-3

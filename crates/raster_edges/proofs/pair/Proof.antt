@@ -1,14 +1,13 @@
 -- `raster_edges::pair` meets its contract: the row's lowest bit places the samples, and two hits are joined. Assumes nothing.
-use Prim.Native.Nat.{ℕ, _+_, _*_, _%_, _^_, _<_}
+use Prim.Native.Nat.{ℕ, _+_, _*_, _%_, _^_}
 use mathlib.Core.Path.{_≡_, ap, ap₂, _∙_}
 use native.Mathlib.Omega.{arith}
 use lib.Bits.{bitAnd, bitOr, and-mask}
 use lib.ListN.{getD}
 use lib.IntN.{ℤ, pos}
 use Rattle.raster_edges.specs.Sample.{inside, bitOf, sampleAt, twoOf, pairOf}
-use Rattle.raster_edge.proofs.Bits.{join}
 use Rattle.raster_edge.proofs.Held.{back}
-use Rattle.raster_edges.proofs.Pairs.{bit-lt}
+use Rattle.raster_edges.proofs.Pairs.{two-bits}
 use borrow.Author.Needs.{needs}
 use Rattle.raster_edges.proofs.pair.Statement.{statement}
 use Rattle.raster_edges.proofs.pair.Tie as tie
@@ -50,15 +49,8 @@ add-hit c = let a = c .before .before .before .before .before .args in record { 
 hit-requires-2 : tie.Need-hit-requires-2
 hit-requires-2 c κs = search needs
 
--- two bits joined
-joined : (l r : ℤ) (n : ℕ) → bitOr ((bitOf (inside l r n) * 2) % 2 ^ 8) (bitOf (inside l r (n + 4))) ≡ twoOf l r n
-unfolding twoOf
-joined l r n =
-    let h : bitOf (inside l r n) < 2 = bit-lt (inside l r n) in
-    join 8 1 (bitOf (inside l r n)) (bitOf (inside l r (n + 4))) (omega arith) (bit-lt (inside l r (n + 4))) ∙ omega arith
-
 returns : tie.Need-returns
-unfolding pairOf
+unfolding pairOf twoOf
 returns c =
     let d = c .before .before in
     let a = d .before .before .before .before .args in
@@ -68,7 +60,8 @@ returns c =
     ap₂ (λ (x y : ℕ). bitOr ((x * 2) % 2 ^ 8) y)
     (c .before .hit .ensures ∙ (λ i. bitOf (inside (l i) (r i) (n i))))
     (c .hit2 .ensures ∙ (λ i. bitOf (inside (l i) (r i) (n i + 4))))
-    ∙ joined (getD (a .e .left) (a .s) (pos 0)) (getD (a .e .right) (a .s) (pos 0)) (sampleAt (a .x) (a .s))
+    ∙ two-bits (inside (getD (a .e .left) (a .s) (pos 0)) (getD (a .e .right) (a .s) (pos 0)) (sampleAt (a .x) (a .s)))
+    (inside (getD (a .e .left) (a .s) (pos 0)) (getD (a .e .right) (a .s) (pos 0)) (sampleAt (a .x) (a .s) + 4))
 
 pub pair-spec : {M : Type 1} → statement M
 pair-spec =

@@ -1,0 +1,3 @@
+-- The definitions that the contracts of `rasterize_slow` cite.
+pub mod Shape
+pub mod Sent
