@@ -1,6 +1,6 @@
 /*
  * Asks the library, through the header, what the Rust original was asked before: the single calls of crates/replay/stdin, and the lists of draws, emitted pixels and word
- * reads of crates/replay_lists/stdin. A call of c/counts.txt has the number of a pixel's samples in place of their mask, and is asked with every mask of so many ones.
+ * reads of crates/replay_lists/stdin, of which both engines are asked the draws and the pixels. A call of c/counts.txt has the number of a pixel's samples in place of their mask, and is asked with every mask of so many ones.
  * docs/replay.md says how they were recorded, oracle/README.md how a line is laid out. Floats agree if they are equal or both NaN.
  * Valid as C11 and as C++11.
  */
@@ -485,8 +485,11 @@ static void drawing_into(drawing *d) {
     }
 }
 
-static wb_emitted emitted_pixel(const drawing *d, uint64_t k) {
-    return wb_emitted_pixel(width, height, colors.at, colors.length, coverages.at, coverages.length, marks.at, marks.length, d->mode, d->uniform, d->cull,
+/* Both are held to the recorded answers; the frame goes on with what the last one drew. */
+static const uint8_t engines[2] = {WB_ENGINE_SLOW, WB_ENGINE_FAST};
+
+static wb_emitted emitted_pixel(uint8_t engine, const drawing *d, uint64_t k) {
+    return wb_emitted_pixel(engine, width, height, colors.at, colors.length, coverages.at, coverages.length, marks.at, marks.length, d->mode, d->uniform, d->cull,
                             d->scissor, d->geometry, d->vertices, d->floats, d->present.at, d->present.length, d->indices, d->count, k);
 }
 
@@ -495,14 +498,23 @@ static wb_emitted emitted_pixel(const drawing *d, uint64_t k) {
 static void draw(void) {
     static drawing d;
     drawing_into(&d);
-    wb_drawn got = wb_draw(width, height, colors.at, colors.length, coverages.at, coverages.length, marks.at, marks.length, d.mode, d.uniform, d.cull, d.scissor,
-                           d.geometry, d.vertices, d.floats, d.present.at, d.present.length, d.indices, d.count);
     answers();
-    same_word(got.number);
-    same_word(got.pixels);
-    same_slice("whether the colours agree", &colors);
-    same_slice("whether the coverages agree", &coverages);
-    same_slice("whether the marks agree", &marks);
+    const char *recorded = at;
+    slice old_colors = colors, old_coverages = coverages, old_marks = marks;
+    wb_drawn got = {0, 0};
+    for (int i = 0; i < 2; i++) {
+        at = recorded;
+        colors = old_colors;
+        coverages = old_coverages;
+        marks = old_marks;
+        got = wb_draw(engines[i], width, height, colors.at, colors.length, coverages.at, coverages.length, marks.at, marks.length, d.mode, d.uniform, d.cull,
+                      d.scissor, d.geometry, d.vertices, d.floats, d.present.at, d.present.length, d.indices, d.count);
+        same_word(got.number);
+        same_word(got.pixels);
+        same_slice("whether the colours agree", &colors);
+        same_slice("whether the coverages agree", &coverages);
+        same_slice("whether the marks agree", &marks);
+    }
     if (got.number != 0 && got.number < 6) {
         return;
     }
@@ -517,22 +529,26 @@ static void draw(void) {
     if (!admitted) {
         return;
     }
-    uint64_t emitted = 0, listed = 0;
+    uint64_t emitted = 0, listed[2] = {0, 0};
     for (size_t i = 0; i < (d.geometry.kind == WB_TRIANGLES ? d.count / 3 : 1); i++) {
         for (uint32_t y = d.scissor.top; y < smaller(height, d.scissor.top + d.scissor.height); y++) {
             for (uint32_t x = d.scissor.left; x < smaller(width, d.scissor.left + d.scissor.width); x++) {
                 uint32_t mask = wb_pixel(d.mode, made.combiner, d.cull, d.geometry, d.vertices, d.floats, d.present.at, d.present.length, d.indices, d.count, i, y, x).mask;
                 if (mask != 0) {
-                    wb_emitted here = emitted_pixel(&d, emitted);
-                    listed += here.number == 0 && here.pixel == y * width + x && here.mask == mask;
+                    for (int by = 0; by < 2; by++) {
+                        wb_emitted here = emitted_pixel(engines[by], &d, emitted);
+                        listed[by] += here.number == 0 && here.pixel == y * width + x && here.mask == mask;
+                    }
                     emitted++;
                 }
             }
         }
     }
     check_at(file_name, line_number, "pixels that emit", emitted, got.pixels);
-    check_at(file_name, line_number, "pixels that are emitted at their place", listed, got.pixels);
-    check_at(file_name, line_number, "the mask behind the last pixel", emitted_pixel(&d, emitted).mask, 0);
+    for (int by = 0; by < 2; by++) {
+        check_at(file_name, line_number, "pixels that are emitted at their place", listed[by], got.pixels);
+        check_at(file_name, line_number, "the mask behind the last pixel", emitted_pixel(engines[by], &d, emitted).mask, 0);
+    }
 }
 
 /* The upper half first. */
@@ -546,10 +562,14 @@ static void mask(void) {
     drawing_into(&d);
     uint64_t k = two_words();
     answers();
-    wb_emitted got = emitted_pixel(&d, k);
-    same_word(got.number);
-    same_word(got.pixel);
-    same_word(got.mask);
+    const char *recorded = at;
+    for (int i = 0; i < 2; i++) {
+        at = recorded;
+        wb_emitted got = emitted_pixel(engines[i], &d, k);
+        same_word(got.number);
+        same_word(got.pixel);
+        same_word(got.mask);
+    }
 }
 
 static size_t pixels_into(uint32_t *to) {
@@ -566,18 +586,22 @@ static void masks(void) {
     slice of_pixels;
     drawing_into(&d);
     uint64_t first = two_words();
-    size_t length = pixels_into(pixels);
-    bytes_into(&of_pixels);
-    wb_emitted_run got =
-        wb_emitted_pixels(width, height, colors.at, colors.length, coverages.at, coverages.length, marks.at, marks.length, d.mode, d.uniform, d.cull, d.scissor,
-                          d.geometry, d.vertices, d.floats, d.present.at, d.present.length, d.indices, d.count, first, pixels, length, of_pixels.at, of_pixels.length);
-    answers();
-    same_word(got.number);
-    same_word(got.listed);
-    same_word(got.emitted);
-    bool same = pixels_into(expected) == length && memcmp(pixels, expected, length * sizeof *pixels) == 0;
-    check_at(file_name, line_number, "whether the pixels agree", same, true);
-    same_slice("whether the masks agree", &of_pixels);
+    const char *slots = at;
+    for (int i = 0; i < 2; i++) {
+        at = slots;
+        size_t length = pixels_into(pixels);
+        bytes_into(&of_pixels);
+        wb_emitted_run got = wb_emitted_pixels(engines[i], width, height, colors.at, colors.length, coverages.at, coverages.length, marks.at, marks.length, d.mode,
+                                               d.uniform, d.cull, d.scissor, d.geometry, d.vertices, d.floats, d.present.at, d.present.length, d.indices, d.count,
+                                               first, pixels, length, of_pixels.at, of_pixels.length);
+        answers();
+        same_word(got.number);
+        same_word(got.listed);
+        same_word(got.emitted);
+        bool same = pixels_into(expected) == length && memcmp(pixels, expected, length * sizeof *pixels) == 0;
+        check_at(file_name, line_number, "whether the pixels agree", same, true);
+        same_slice("whether the masks agree", &of_pixels);
+    }
 }
 
 static void read_word(void) {

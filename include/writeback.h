@@ -278,10 +278,15 @@ typedef struct {
     uint64_t pixels; /* the pixels emitted, counted with repeats */
 } wb_drawn;
 
-/* Draws every triangle, or the rectangle. Turned away, it changes nothing. */
-wb_drawn wb_draw(uint32_t width, uint32_t height, uint8_t *colors, size_t colors_len, uint8_t *coverages, size_t coverages_len, uint8_t *marks, size_t marks_len,
-                 wb_mode mode, wb_uniform uniform, bool cull, wb_scissor scissor, wb_geometry geometry, const float *vertices, size_t vertices_len,
-                 const uint8_t *present, size_t present_len, const uint32_t *indices, size_t indices_len);
+/* Which engine finds a draw's pixels. Nothing that is answered or written turns on it. The slow one is there to be read beside the console's papers: for each triangle, or
+ * for the rectangle, it visits every pixel of the frame inside the scissor and tests its eight samples, so that it takes triangles times the scissor's area times eight
+ * tests. docs/RASTERISER.md walks through it. */
+enum wb_engine { WB_ENGINE_FAST = 0, WB_ENGINE_SLOW = 1 };
+
+/* Draws every triangle, or the rectangle. Turned away, it changes nothing. `engine` is an enum wb_engine, here and below. */
+wb_drawn wb_draw(uint8_t engine, uint32_t width, uint32_t height, uint8_t *colors, size_t colors_len, uint8_t *coverages, size_t coverages_len, uint8_t *marks,
+                 size_t marks_len, wb_mode mode, wb_uniform uniform, bool cull, wb_scissor scissor, wb_geometry geometry, const float *vertices,
+                 size_t vertices_len, const uint8_t *present, size_t present_len, const uint32_t *indices, size_t indices_len);
 
 typedef struct {
     uint32_t number; /* 0, or why the draw would be turned away: 1 to 7 */
@@ -292,10 +297,10 @@ typedef struct {
 /* The k-th pixel that wb_draw would emit, counted from 0 and with repeats, and which of its samples are hit. A pixel has four rows of two samples: bit 7 of the mask
  * is the upper row's left one, bit 6 its right one, and so on to bit 0, the lowest row's right one. Nothing is drawn, and the frame is only read. The mask of an
  * emitted pixel is never 0: beside number 0 a mask of 0, and not a pixel of 0, says that the draw emits no more than k pixels. */
-wb_emitted wb_emitted_pixel(uint32_t width, uint32_t height, const uint8_t *colors, size_t colors_len, const uint8_t *coverages, size_t coverages_len,
-                            const uint8_t *marks, size_t marks_len, wb_mode mode, wb_uniform uniform, bool cull, wb_scissor scissor, wb_geometry geometry,
-                            const float *vertices, size_t vertices_len, const uint8_t *present, size_t present_len, const uint32_t *indices, size_t indices_len,
-                            uint64_t k);
+wb_emitted wb_emitted_pixel(uint8_t engine, uint32_t width, uint32_t height, const uint8_t *colors, size_t colors_len, const uint8_t *coverages,
+                            size_t coverages_len, const uint8_t *marks, size_t marks_len, wb_mode mode, wb_uniform uniform, bool cull, wb_scissor scissor,
+                            wb_geometry geometry, const float *vertices, size_t vertices_len, const uint8_t *present, size_t present_len,
+                            const uint32_t *indices, size_t indices_len, uint64_t k);
 
 typedef struct {
     uint32_t number;  /* 0, or why it was turned away: 1 to 7, or 20 */
@@ -306,10 +311,11 @@ typedef struct {
 /* The emitted pixels from first on, as many as there are slots: pixels[i] and masks[i] are what wb_emitted_pixel answers for first + i, so that both are 0 past the
  * last pixel, and also where first + i is more than 2^64 - 1. With no slots it answers how many pixels the draw emits. Number 20, which comes after 1 to 7: pixels and masks
  * have not the same length. Turned away, it writes nothing, and both counts are 0. */
-wb_emitted_run wb_emitted_pixels(uint32_t width, uint32_t height, const uint8_t *colors, size_t colors_len, const uint8_t *coverages, size_t coverages_len,
-                                 const uint8_t *marks, size_t marks_len, wb_mode mode, wb_uniform uniform, bool cull, wb_scissor scissor, wb_geometry geometry,
-                                 const float *vertices, size_t vertices_len, const uint8_t *present, size_t present_len, const uint32_t *indices,
-                                 size_t indices_len, uint64_t first, uint32_t *pixels, size_t pixels_len, uint8_t *masks, size_t masks_len);
+wb_emitted_run wb_emitted_pixels(uint8_t engine, uint32_t width, uint32_t height, const uint8_t *colors, size_t colors_len, const uint8_t *coverages,
+                                 size_t coverages_len, const uint8_t *marks, size_t marks_len, wb_mode mode, wb_uniform uniform, bool cull,
+                                 wb_scissor scissor, wb_geometry geometry, const float *vertices, size_t vertices_len, const uint8_t *present,
+                                 size_t present_len, const uint32_t *indices, size_t indices_len, uint64_t first, uint32_t *pixels, size_t pixels_len,
+                                 uint8_t *masks, size_t masks_len);
 
 /* The two bytes of a pixel's word, the first lowest, or why the read was turned away: 1 to 3 and 8 to 10. A word that is answered does not turn
  * on what is not known: it is the word of every frame that has the same known bytes and knows the rest (docs/THEOREMS.md). */

@@ -269,6 +269,7 @@ unsafe extern "C" {
     ) -> wb_fragment;
 
     pub unsafe fn wb_draw(
+        engine: u8,
         width: u32,
         height: u32,
         colors: *mut u8,
@@ -290,6 +291,7 @@ unsafe extern "C" {
         indices_len: usize,
     ) -> wb_drawn;
     pub unsafe fn wb_emitted_pixel(
+        engine: u8,
         width: u32,
         height: u32,
         colors: *const u8,
@@ -312,6 +314,7 @@ unsafe extern "C" {
         k: u64,
     ) -> wb_emitted;
     pub unsafe fn wb_emitted_pixels(
+        engine: u8,
         width: u32,
         height: u32,
         colors: *const u8,

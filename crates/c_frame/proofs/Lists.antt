@@ -1,16 +1,12 @@
 -- The two slices of a run of emitted pixels are in its answer as they are afterwards. Assumes nothing.
 use Prim.Native.Nat.{ℕ}
-use mathlib.Core.Path.{_≡_, refl, ap, _∙_}
+use mathlib.Core.Path.{_≡_, ap, _∙_}
 use mathlib.Core.List.{List}
 use Rattle.frame_emitted.specs.declared.Listed.{Listed}
-use Rattle.frame_emitted.specs.declared.Listed.the-variants.{Pixels, Refused}
 use Rattle.frame_emitted.specs.Run.{PixelsAnswer, pixelsMeans}
+use Rattle.frame_emitted.proofs.Engines.{slices}
 use Rattle.c_frame.specs.declared.emitted.ListedAnswer.{ListedAnswer}
 use Rattle.c_frame.specs.Frames.{listedAnswer}
-
-slices : (r : Listed) (ps ms : List ℕ) → (ps ≡ pixelsMeans r ps ms .pixels) × (ms ≡ pixelsMeans r ps ms .masks)
-slices (Pixels n m) ps ms = (refl, refl)
-slices (Refused k) ps ms = (refl, refl)
 
 pub listed-as :
     (r : Listed) {c : ListedAnswer} (ps ms : List ℕ) {a : PixelsAnswer} → c ≡ listedAnswer (pixelsMeans r ps ms) → pixelsMeans r ps ms ≡ a

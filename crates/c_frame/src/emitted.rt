@@ -6,6 +6,7 @@ ghost use Rattle.frame.specs.Lent.{old, new, before};
 ghost use Rattle.frame_emitted.specs.Emitted.{pixelMeans, emittedAnswer};
 ghost use Rattle.frame_emitted.specs.Run.{pixelsMeans, emittedRun};
 ghost use Rattle.c_frame.specs.Frames.{drawFrom, pixelAnswer, listedAnswer};
+use crate::engine_of;
 use c_draw::GeometryParts;
 use c_draw::geometry_of;
 use c_types::Mode;
@@ -71,6 +72,7 @@ fn listed(answer: Listed) -> ListedAnswer
 }
 
 pub fn emitted_pixel(
+    engine: u8,
     width: u32,
     height: u32,
     colors: &[u8],
@@ -91,6 +93,7 @@ pub fn emitted_pixel(
     let m = render_mode(mode);
     let g = geometry_of(geometry);
     let answer = frame_emitted::emitted_pixel(
+        engine_of(engine),
         width,
         height,
         colors,
@@ -110,6 +113,7 @@ pub fn emitted_pixel(
 }
 
 pub fn emitted_pixels(
+    engine: u8,
     width: u32,
     height: u32,
     colors: &[u8],
@@ -140,6 +144,7 @@ pub fn emitted_pixels(
     let m = render_mode(mode);
     let g = geometry_of(geometry);
     let answer = frame_emitted::emitted_pixels(
+        engine_of(engine),
         width,
         height,
         colors,

@@ -6,6 +6,7 @@ ghost use Rattle.frame_draw.specs.Draw.{drawnMeans, drawAnswer, drawFrame};
 ghost use mathlib.Core.List.{[]};
 ghost use Rattle.words_read.specs.Read.{wordMeans, readAnswer};
 ghost use Rattle.words_run.specs.Run.{runMeans, runAnswer};
+ghost use Rattle.c_frame.specs.Engines.{engineOf};
 ghost use Rattle.c_frame.specs.Frames.{drawFrom, readFrom, drawnAnswer, wordAnswer, ranAnswer};
 use c_answers::Answer;
 use c_draw::GeometryParts;
@@ -14,12 +15,23 @@ use c_types::Mode;
 use c_types::byte_order;
 use c_types::render_mode;
 use frame_draw::Drawn;
+use frame_draw::Engine;
 use raster_pixel::Scissor;
 use state::CombinerUniform;
 use words_read::Word;
 use words_run::Run;
 
 pub mod emitted; // the emitted pixels of a draw
+
+// 0 is the fast engine, and every other number the slow one.
+pub fn engine_of(number: u8) -> Engine
+    ensures { λ r. ⌜ r ≡ engineOf number ⌝ }
+{
+    match number {
+        0 => Engine::Fast,
+        _ => Engine::Slow,
+    }
+}
 
 // The number (docs/RULES.md) and the count of pixels emitted, with repeats.
 #[repr(C)]
@@ -75,6 +87,7 @@ fn word(answer: Word) -> Answer
 }
 
 pub fn draw(
+    engine: u8,
     width: u32,
     height: u32,
     colors: &mut [u8],
@@ -95,6 +108,7 @@ pub fn draw(
     let m = render_mode(mode);
     let g = geometry_of(geometry);
     let answer = frame_draw::draw(
+        engine_of(engine),
         width,
         height,
         colors,

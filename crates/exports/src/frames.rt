@@ -19,6 +19,7 @@ use state::CombinerUniform;
 
 #[no_mangle]
 pub extern "C" fn wb_draw(
+    engine: u8,
     width: u32,
     height: u32,
     colors: &mut [u8],
@@ -37,6 +38,7 @@ pub extern "C" fn wb_draw(
     ensures frame { λ r. ⌜ after colors coverages marks ≡ drawFrame (drawFrom mode uniform cull scissor geometry vertices present indices) width height (before colors coverages marks) ⌝ }
 {
     c_frame::draw(
+        engine,
         width,
         height,
         colors,
@@ -55,6 +57,7 @@ pub extern "C" fn wb_draw(
 
 #[no_mangle]
 pub extern "C" fn wb_emitted_pixel(
+    engine: u8,
     width: u32,
     height: u32,
     colors: &[u8],
@@ -73,6 +76,7 @@ pub extern "C" fn wb_emitted_pixel(
     ensures { λ r. ⌜ r ≡ pixelAnswer (emittedAnswer (drawFrom mode uniform cull scissor geometry vertices present indices) width height (before colors coverages marks) k) ⌝ }
 {
     c_frame::emitted::emitted_pixel(
+        engine,
         width,
         height,
         colors,
@@ -92,6 +96,7 @@ pub extern "C" fn wb_emitted_pixel(
 
 #[no_mangle]
 pub extern "C" fn wb_emitted_pixels(
+    engine: u8,
     width: u32,
     height: u32,
     colors: &[u8],
@@ -120,6 +125,7 @@ pub extern "C" fn wb_emitted_pixels(
         ⌜ new masks ≡ emittedRun d width height (before colors coverages marks) first (old pixels) (old masks) .masks ⌝ }
 {
     c_frame::emitted::emitted_pixels(
+        engine,
         width,
         height,
         colors,

@@ -2,3 +2,4 @@
 pub mod Checks
 pub mod Draw
 pub mod Answered
+pub mod Outcome

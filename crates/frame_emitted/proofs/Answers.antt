@@ -27,6 +27,7 @@ use Rattle.raster_emitted.specs.Shapes.{geometryMasks}
 use Rattle.raster_emitted.proofs.Colorless.{geometry-masks}
 use Rattle.frame.specs.Checks.{orElse}
 use Rattle.frame.specs.Frame.{Frame}
+use Rattle.frame_paint.specs.Paint.{Mixed}
 use Rattle.frame_draw.specs.declared.Accepted.{Accepted}
 use Rattle.frame_draw.specs.declared.Accepted.the-variants as accept
 use Rattle.frame_draw.specs.Answered.{planBy}
@@ -92,10 +93,10 @@ module _ (d : DrawArgs) (w h : ℕ) (f : Frame) (r : Accepted) (e : planBy d w h
         omega (arith, geometry-most (d .scissor) (z .width-small) (z .height-small) (d .mode) x (d .cull) (d .vertices) (d .present) (d .indices) (d .geometry), y .0 .0)
 
     -- what the code needs of the draw
-    pub listable : Sized (d .scissor) w h × ((d .geometry ≡ Triangles → TrianglesNear (d .vertices) (d .present) (d .indices)) × (length (masksOf d w h) ≤ largestCount))
+    pub listable : (Sized (d .scissor) w h × Mixed x) × ((d .geometry ≡ Triangles → TrianglesNear (d .vertices) (d .present) (d .indices)) × (length (masksOf d w h) ≤ largestCount))
     listable =
         let y = drawable d w h f r e er in (
-          y .1 .1 .0,
+          (y .1 .1 .0, y .0 .1),
           (
             λ g. admitted-near x (d .vertices) (d .present) (d .indices) (subst (λ (q : Geometry). admittedOf x q (d .vertices) (d .present) (d .indices) ≡ true) g (y .1 .0)),
             omega (arith, few, ap length masks-are, length-map es maskedOf),

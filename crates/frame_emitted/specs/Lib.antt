@@ -2,3 +2,4 @@
 pub mod Emitted
 pub mod Run
 pub mod Places
+pub mod Outcomes

@@ -6,14 +6,18 @@ ghost use lib.ListN.{length, getD};
 ghost use Rattle.raster_pixel.specs.declared.Geometry.the-variants.{Triangles};
 ghost use Rattle.raster_pixel.specs.Area.{Sized};
 ghost use Rattle.raster_pixel.specs.Near.{TrianglesNear};
+ghost use Rattle.raster_emitted.specs.Listed.{ReadyIn, ListedIn};
 ghost use Rattle.raster_emitted.specs.Masked.{noPixel};
 ghost use Rattle.raster_emitted.specs.Shapes.{geometryMasks};
 ghost use Rattle.frame.specs.Lent.{old, new, before};
+ghost use Rattle.frame_paint.specs.Paint.{Mixed};
 ghost use Rattle.frame_draw.specs.Draw.{drawOf};
 ghost use Rattle.frame_emitted.specs.Emitted.{pixelMeans, pixelOf, emittedAnswer, NumberedPixel};
 ghost use Rattle.frame_emitted.specs.Run.{pixelsMeans, emittedRun, NumberedPixels};
 ghost use Rattle.frame_emitted.specs.Places.{largestCount, FoundAt, ListedAll};
+use combiner::Combiner;
 use frame_draw::Accepted;
+use frame_draw::Engine;
 use raster_emitted::slots::Window;
 use raster_pixel::Geometry;
 use raster_pixel::Scissor;
@@ -49,10 +53,67 @@ fn count_past(k: u64) -> u64
     k + 1
 }
 
+// The pixels of a draw whose triangles are near: how many there are, at most the window's limit, and those of the window in their slots.
+fn list_by(
+    engine: Engine,
+    pixels: &mut [u32],
+    masks: &mut [u8],
+    window: Window,
+    mode: RenderMode,
+    combiner: Combiner,
+    cull: bool,
+    scissor: Scissor,
+    width: u32,
+    height: u32,
+    geometry: Geometry,
+    vertices: &[f32],
+    present: &[u8],
+    indices: &[u32],
+) -> u64
+    requires ready { ⌜ ReadyIn window 0 pixels masks ⌝ }
+    requires sized { ⌜ Sized scissor width height × Mixed combiner ⌝ }
+    requires near { ⌜ (geometry ≡ Triangles → TrianglesNear (now vertices) (now present) (now indices)) ⌝ }
+    ensures { λ r. ⌜ ListedIn window (geometryMasks (mode .antialias) cull scissor width height (old vertices) (old present) (old indices) geometry) 0 r pixels masks ⌝ }
+{
+    match engine {
+        Engine::Fast => raster_emitted::list_pixels(
+            pixels,
+            masks,
+            window,
+            mode.antialias,
+            cull,
+            scissor,
+            width,
+            height,
+            geometry,
+            vertices,
+            present,
+            indices,
+        ),
+        Engine::Slow => rasterize_slow::list_pixels(
+            pixels,
+            masks,
+            window,
+            mode,
+            combiner,
+            cull,
+            scissor,
+            width,
+            height,
+            geometry,
+            vertices,
+            present,
+            indices,
+        ),
+    }
+}
+
 // Pixel k of a draw whose triangles are near, in a slot of its own.
 fn pixel_at(
+    engine: Engine,
     k: u64,
-    antialias: bool,
+    mode: RenderMode,
+    combiner: Combiner,
     cull: bool,
     scissor: Scissor,
     width: u32,
@@ -62,11 +123,11 @@ fn pixel_at(
     present: &[u8],
     indices: &[u32],
 ) -> Emitted
-    requires sized { ⌜ Sized scissor width height ⌝ }
+    requires sized { ⌜ Sized scissor width height × Mixed combiner ⌝ }
     requires near { ⌜ (geometry ≡ Triangles → TrianglesNear (now vertices) (now present) (now indices)) ⌝ }
-    requires few { ⌜ length (geometryMasks antialias cull scissor width height (now vertices) (now present) (now indices) geometry) ≤ largestCount ⌝ }
-    ensures { λ r. ⌜ pixelMeans r ≡ pixelOf (getD (geometryMasks antialias cull scissor width height (old vertices) (old present) (old indices) geometry) k noPixel) ⌝ }
-    ensures { λ r. ⌜ FoundAt (geometryMasks antialias cull scissor width height (old vertices) (old present) (old indices) geometry) k r ⌝ }
+    requires few { ⌜ length (geometryMasks (mode .antialias) cull scissor width height (now vertices) (now present) (now indices) geometry) ≤ largestCount ⌝ }
+    ensures { λ r. ⌜ pixelMeans r ≡ pixelOf (getD (geometryMasks (mode .antialias) cull scissor width height (old vertices) (old present) (old indices) geometry) k noPixel) ⌝ }
+    ensures { λ r. ⌜ FoundAt (geometryMasks (mode .antialias) cull scissor width height (old vertices) (old present) (old indices) geometry) k r ⌝ }
 {
     let mut pixels = [0u32; 1];
     let mut masks = [0u8; 1];
@@ -74,11 +135,13 @@ fn pixel_at(
         first: k,
         limit: count_past(k),
     };
-    let count = raster_emitted::list_pixels(
+    let count = list_by(
+        engine,
         &mut pixels,
         &mut masks,
         window,
-        antialias,
+        mode,
+        combiner,
         cull,
         scissor,
         width,
@@ -96,6 +159,7 @@ fn pixel_at(
 
 // The k-th pixel that a draw emits, from 0, and its mask: numbers 1 to 7 are asked as `draw` asks them. Nothing that is lent is written.
 pub fn emitted_pixel(
+    engine: Engine,
     width: u32,
     height: u32,
     colors: &[u8],
@@ -130,9 +194,11 @@ pub fn emitted_pixel(
         indices,
     ) {
         Accepted::Refused(number) => Emitted::Refused(number),
-        Accepted::With(_) => pixel_at(
+        Accepted::With(combiner) => pixel_at(
+            engine,
             k,
-            mode.antialias,
+            mode,
+            combiner,
             cull,
             scissor,
             width,
@@ -147,10 +213,12 @@ pub fn emitted_pixel(
 
 // The pixels of a draw whose triangles are near, from `first` on, and zeros in the slots past the last: how many pixels it emits.
 fn list_from(
+    engine: Engine,
     first: u64,
     pixels: &mut [u32],
     masks: &mut [u8],
-    antialias: bool,
+    mode: RenderMode,
+    combiner: Combiner,
     cull: bool,
     scissor: Scissor,
     width: u32,
@@ -161,20 +229,22 @@ fn list_from(
     indices: &[u32],
 ) -> u64
     requires equal { ⌜ length (now pixels) ≡ length (now masks) ⌝ }
-    requires sized { ⌜ Sized scissor width height ⌝ }
+    requires sized { ⌜ Sized scissor width height × Mixed combiner ⌝ }
     requires near { ⌜ (geometry ≡ Triangles → TrianglesNear (now vertices) (now present) (now indices)) ⌝ }
-    requires few { ⌜ length (geometryMasks antialias cull scissor width height (now vertices) (now present) (now indices) geometry) ≤ largestCount ⌝ }
-    ensures { λ r. ⌜ ListedAll (geometryMasks antialias cull scissor width height (old vertices) (old present) (old indices) geometry) first r (old masks) (new pixels) (new masks) ⌝ }
+    requires few { ⌜ length (geometryMasks (mode .antialias) cull scissor width height (now vertices) (now present) (now indices) geometry) ≤ largestCount ⌝ }
+    ensures { λ r. ⌜ ListedAll (geometryMasks (mode .antialias) cull scissor width height (old vertices) (old present) (old indices) geometry) first r (old masks) (new pixels) (new masks) ⌝ }
 {
     let window = Window {
         first,
         limit: LARGEST,
     };
-    let count = raster_emitted::list_pixels(
+    let count = list_by(
+        engine,
         pixels,
         masks,
         window,
-        antialias,
+        mode,
+        combiner,
         cull,
         scissor,
         width,
@@ -192,6 +262,7 @@ fn list_from(
 // The pixels that a draw emits, from the first-th on, as many as there are slots: slot i has what the single call answers for first + i. Its own refusal, 20, is
 // for slices that have not one length. Turned away, it writes nothing.
 pub fn emitted_pixels(
+    engine: Engine,
     width: u32,
     height: u32,
     colors: &[u8],
@@ -230,15 +301,17 @@ pub fn emitted_pixels(
         indices,
     ) {
         Accepted::Refused(number) => Listed::Refused(number),
-        Accepted::With(_) => {
+        Accepted::With(combiner) => {
             if pixels.len() != masks.len() {
                 return Listed::Refused(UNEQUAL);
             }
             let emitted = list_from(
+                engine,
                 first,
                 pixels,
                 masks,
-                mode.antialias,
+                mode,
+                combiner,
                 cull,
                 scissor,
                 width,

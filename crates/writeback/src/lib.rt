@@ -57,6 +57,7 @@ pub use raster_vertex::Vertex;
 
 // The frame.
 pub use frame_draw::Drawn;
+pub use frame_draw::Engine;
 pub use frame_draw::draw;
 pub use frame_emitted::Emitted;
 pub use frame_emitted::Listed;

@@ -15,11 +15,13 @@ enum-known-number c = search needs
 enum-known-combiner : tie.Need-enum-known-combiner
 enum-known-combiner c = search needs
 
-rasterize-requires : tie.Need-rasterize-requires
-rasterize-requires c κs =
-    let a = c .before .before .before .before .before .before .before .before .before .before .before .before .before .before .before .before .args in
+rasterize-by-requires : tie.Need-rasterize-by-requires
+rasterize-by-requires c κs =
+    let k = c .before .before .before .before in
+    let p = k .before .before in
+    let a = p .before .before .before .before .before .before .before .before .before .before .args in
     drawable (drawArgs (a .mode) (a .uniform) (a .cull) (a .scissor) (a .geometry) (now (a .vertices)) (now (a .present)) (now (a .indices))) _ _ _ _
-    (c .before .before .before .before .before .before .accept .ensures) (c .before .before .before .before .combiner .given .1)
+    (p .accept .ensures) (k .combiner .given .1)
 
 same-length : tie.Need-same-length
 same-length c = search needs
@@ -43,7 +45,11 @@ same-length-6 : tie.Need-same-length-6
 same-length-6 c = search needs
 
 returns-2 : tie.Need-returns-2
-returns-2 c = draw-accepted _ _ _ _ _ (c .before .before .before .before .before .before .before .before .before .before .before .before .before .accept .ensures) (c .before .before .before .before .before .before .before .before .before .before .before .combiner .given .1) (c .before .before .before .before .before .before .rasterize .ensures)
+returns-2 c =
+    let r = c .before .before .before .before .before .before in
+    let k = r .before .before .before .before .before in
+    let p = k .before .before in
+    draw-accepted _ _ _ _ _ (p .accept .ensures) (k .combiner .given .1) (r .rasterize-by .ensures)
 
 pub draw-spec : {M : Type 1} → statement M
 draw-spec =
@@ -52,7 +58,7 @@ draw-spec =
     accept-requires
     enum-known-number
     enum-known-combiner
-    rasterize-requires
+    rasterize-by-requires
     same-length
     same-length-2
     same-length-3

@@ -12,14 +12,16 @@ accept-requires c κs = search needs
 enum-known-number : tie.Need-enum-known-number
 enum-known-number c = search needs
 
-enum-told : tie.Need-enum-told
-enum-told c = search needs
+enum-known-combiner : tie.Need-enum-known-combiner
+enum-known-combiner c = search needs
 
 pixel-at-requires : tie.Need-pixel-at-requires
 pixel-at-requires c κs =
-    let p = c .before .before in
+    let t = c .before in
+    let p = t .before .before in
     let a = p .before .before .before .before .before .before .before .args in
-    listable (drawArgs (a .mode) (a .uniform) (a .cull) (a .scissor) (a .geometry) (now (a .vertices)) (now (a .present)) (now (a .indices))) _ _ _ _ (p .accept .ensures) (c .enum-told .given .1)
+    listable (drawArgs (a .mode) (a .uniform) (a .cull) (a .scissor) (a .geometry) (now (a .vertices)) (now (a .present)) (now (a .indices))) _ _ _ _
+    (p .accept .ensures) (t .combiner .given .1)
 
 returns : tie.Need-returns
 returns c =
@@ -28,12 +30,13 @@ returns c =
 
 returns-2 : tie.Need-returns-2
 returns-2 c =
-    let t = c .before in
+    let t = c .before .before in
     let p = t .before .before in
     let a = p .before .before .before .before .before .before .before .args in
-    pixel-accepted (drawArgs (a .mode) (a .uniform) (a .cull) (a .scissor) (a .geometry) (now (a .vertices)) (now (a .present)) (now (a .indices))) _ _ _ _ (p .accept .ensures) (t .enum-told .given .1) (c .pixel-at .result) _ (c .pixel-at .ensures .0) (c .pixel-at .ensures .1)
+    pixel-accepted (drawArgs (a .mode) (a .uniform) (a .cull) (a .scissor) (a .geometry) (now (a .vertices)) (now (a .present)) (now (a .indices))) _ _ _ _
+    (p .accept .ensures) (t .combiner .given .1) (c .pixel-at .result) _ (c .pixel-at .ensures .0) (c .pixel-at .ensures .1)
 
 pub emitted-pixel-spec : {M : Type 1} → statement M
 emitted-pixel-spec =
     tie.close
-    (tie.spec accept-requires enum-known-number enum-told pixel-at-requires returns returns-2)
+    (tie.spec accept-requires enum-known-number enum-known-combiner pixel-at-requires returns returns-2)

@@ -12,21 +12,23 @@ accept-requires c κs = search needs
 enum-known-number : tie.Need-enum-known-number
 enum-known-number c = search needs
 
-enum-told : tie.Need-enum-told
-enum-told c = search needs
+enum-known-combiner : tie.Need-enum-known-combiner
+enum-known-combiner c = search needs
 
 returns : tie.Need-returns
 returns c =
-    let p = c .before .before .before in
-    run-unequal _ _ _ _ _ (p .accept .ensures) (c .before .enum-told .given .1) _ _ _ (c .if1 .taken)
+    let t = c .before .before in
+    let p = t .before .before in
+    run-unequal _ _ _ _ _ (p .accept .ensures) (t .combiner .given .1) _ _ _ (c .if1 .taken)
 
 list-from-requires : tie.Need-list-from-requires
 list-from-requires c κs =
     let e = c .before .before in
-    let t = e .before in
+    let t = e .before .before in
     let p = t .before .before in
     let a = p .before .before .before .before .before .before .before .before .before .args in
-    let y = listable (drawArgs (a .mode) (a .uniform) (a .cull) (a .scissor) (a .geometry) (now (a .vertices)) (now (a .present)) (now (a .indices))) _ _ _ _ (p .accept .ensures) (t .enum-told .given .1) in
+    let y = listable (drawArgs (a .mode) (a .uniform) (a .cull) (a .scissor) (a .geometry) (now (a .vertices)) (now (a .present)) (now (a .indices))) _ _ _ _
+    (p .accept .ensures) (t .combiner .given .1) in
     (e .if1 .left, (y .0, y .1))
 
 slots-before-requires : tie.Need-slots-before-requires
@@ -47,10 +49,11 @@ returns-3 : tie.Need-returns-3
 returns-3 c =
     let l = c .before .before .before .before .before in
     let e = l .before .before .before in
-    let t = e .before in
+    let t = e .before .before in
     let p = t .before .before in
     let a = p .before .before .before .before .before .before .before .before .before .args in
-    run-accepted (drawArgs (a .mode) (a .uniform) (a .cull) (a .scissor) (a .geometry) (now (a .vertices)) (now (a .present)) (now (a .indices))) _ _ _ _ (p .accept .ensures) (t .enum-told .given .1) (l .list-from .ensures) _ (e .if1 .left) (c .slots-before .ensures)
+    run-accepted (drawArgs (a .mode) (a .uniform) (a .cull) (a .scissor) (a .geometry) (now (a .vertices)) (now (a .present)) (now (a .indices))) _ _ _ _
+    (p .accept .ensures) (t .combiner .given .1) (l .list-from .ensures) _ (e .if1 .left) (c .slots-before .ensures)
 
 pub emitted-pixels-spec : {M : Type 1} → statement M
 emitted-pixels-spec =
@@ -58,7 +61,7 @@ emitted-pixels-spec =
     (tie.spec
     accept-requires
     enum-known-number
-    enum-told
+    enum-known-combiner
     returns
     list-from-requires
     slots-before-requires

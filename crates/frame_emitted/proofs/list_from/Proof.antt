@@ -5,8 +5,8 @@ use Rattle.frame_emitted.proofs.Slots.{run-listed}
 use Rattle.frame_emitted.proofs.list_from.Statement.{statement}
 use Rattle.frame_emitted.proofs.list_from.Tie as tie
 
-list-pixels-requires : tie.Need-list-pixels-requires
-list-pixels-requires c κs = search needs
+list-by-requires : tie.Need-list-by-requires
+list-by-requires c κs = search needs
 
 slots-before-requires : tie.Need-slots-before-requires
 slots-before-requires c κs = search needs
@@ -26,13 +26,13 @@ returns c =
     let b = z .before .before .before in
     let l = b .before .before .before .before .before in
     let s = l .before .before .before .before .before .before .before .before in
-    run-listed _ (s .pre .0) refl (s .pre .1 .1 .1) (l .list-pixels .ensures) (b .slots-before .ensures) (z .clear .ensures)
+    run-listed _ (s .pre .0) refl (s .pre .1 .1 .1) (l .list-by .ensures) (b .slots-before .ensures) (z .clear .ensures)
 
 pub list-from-spec : {M : Type 1} → statement M
 list-from-spec =
     tie.close
     (tie.spec
-    list-pixels-requires
+    list-by-requires
     slots-before-requires
     clear-requires
     same-length

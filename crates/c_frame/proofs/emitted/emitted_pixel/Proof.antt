@@ -1,4 +1,4 @@
--- `c_frame::emitted::emitted_pixel` meets its contract: the mode and the geometry from plain values, and the answer back. Assumes nothing.
+-- `c_frame::emitted::emitted_pixel` meets its contract: mode, geometry and engine from plain values, and the answer back. Assumes nothing.
 use borrow.Author.Needs.{needs}
 use mathlib.Core.Path.{ap, _∙_}
 use denote.Ref.{now}
@@ -15,6 +15,9 @@ render-mode-requires c κs = search needs
 geometry-of-requires : tie.Need-geometry-of-requires
 geometry-of-requires c κs = search needs
 
+engine-of-requires : tie.Need-engine-of-requires
+engine-of-requires c κs = search needs
+
 emitted-pixel-requires : tie.Need-emitted-pixel-requires
 emitted-pixel-requires c κs = search needs
 
@@ -24,7 +27,7 @@ emitted-requires c κs = search needs
 returns : tie.Need-returns
 returns c =
     let p = c .before in
-    let g = p .before in
+    let g = p .before .before in
     let m = g .before in
     let a = m .before .before .before .before .before .before .before .args in
     let f = frameOf (now (a .colors)) (now (a .coverages)) (now (a .marks)) in
@@ -38,6 +41,7 @@ emitted-pixel-spec =
     (tie.spec
     render-mode-requires
     geometry-of-requires
+    engine-of-requires
     emitted-pixel-requires
     emitted-requires
     returns)
