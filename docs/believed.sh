@@ -1,5 +1,5 @@
 #!/usr/bin/env bash
-# Which definitions a reader must believe: those that the contracts of the public calls cite, those of the two theorems on whole lists and of what is certain, of the proved table, of the law
+# Which definitions a reader must believe: those that the contracts of the public calls cite, those of the three theorems on whole lists, of what either engine leaves and of what is certain, of the proved table, of the law
 # `one-range`, of the law `by-count` and of the needs of the loads, and, through their bodies, what these cite in turn. Every other definition under crates/*/specs is vocabulary of inner functions, tied to the believed
 # ones by proof. Holds the first line of each file of specs/, and the tables of docs/THEOREMS.md, to that; prints what is wrong and then fails.
 set -euo pipefail
@@ -175,6 +175,8 @@ END {
             for (i = 1; i <= n; i++) root(part[i])
         }
     }
+    root("frame_draw/Outcome/Outcome"); root("frame_emitted/Outcomes/PixelOutcome"); root("frame_emitted/Outcomes/PixelsOutcome")
+    root("theorem_calls/Choices/SameButChoices"); root("theorem_calls/Choices/rechosen"); root("theorem_calls/Choices/SameOutcome")
     root("theorem_secrecy/Runs/Secret"); root("frame/Alike/Alike"); root("theorem_truth/Truth/Truth"); root("theorem_truth/Completed/completed"); root("theorem_truth/Console/consoleAfterAll"); root("frame/Knows/AllKnown")
     root("frame_pixel/Certain/CertainColors"); root("frame_pixel/Certain/CertainCoverage"); root("frame_pixel/Certain/coverageGivenUp"); root("frame_pixel/Certain/SameAtEnds")
     root("theorem_values/Table/table"); root("theorem_values/Table/Holds"); root("words_pack/Depth/Within"); root("writeback_pixel/Counted/counted"); root("frame/Loads/ColorKnown"); root("frame/Loads/CoverageKnown"); root("frame/Loads/Loadable")

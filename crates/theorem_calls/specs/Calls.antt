@@ -3,22 +3,23 @@
 use Prim.Native.Nat.{ℕ}
 use mathlib.Core.List.{List, [], _∷_}
 use Rattle.frame.specs.Frame.{Frame}
+use Rattle.frame_draw.specs.declared.Engine.{Engine}
 use Rattle.frame_draw.specs.Draw.{DrawArgs, DrawAnswer, drawAnswer, drawFrame}
 use Rattle.words_read.specs.Read.{ReadArgs, WordAnswer, readAnswer}
 use Rattle.words_run.specs.Run.{RunAnswer, runAnswer}
 use Rattle.frame_emitted.specs.Emitted.{PixelAnswer, emittedAnswer}
 use Rattle.frame_emitted.specs.Run.{PixelsAnswer, emittedRun}
 
--- a call, with all its arguments but the frame
+-- a call, with all its arguments but the frame. A draw and a question for emitted pixels choose an engine; no clause below looks at it
 pub data Call : Type 0 where
-  draw : DrawArgs → Call
+  draw : Engine → DrawArgs → Call
   read : ReadArgs → Call
   -- a run, with the lent slices for words and numbers as they are before it
   reads : ReadArgs → List ℕ → List ℕ → Call
   -- the k-th pixel of a draw that is not carried out
-  pixel : DrawArgs → ℕ → Call
+  pixel : Engine → DrawArgs → ℕ → Call
   -- a run of them, with the lent slices for pixels and masks as they are before it
-  pixels : DrawArgs → ℕ → List ℕ → List ℕ → Call
+  pixels : Engine → DrawArgs → ℕ → List ℕ → List ℕ → Call
 
 -- number and pixel count, number and word bytes, a run's number and count with the two slices after it, number with a pixel and its mask, or a run's number and counts with the
 -- two slices after it
@@ -31,19 +32,19 @@ pub data Answer : Type 0 where
 
 module _ (w h : ℕ) where
   abbrev pub answerTo : Call → Frame → Answer
-  answerTo (Call.draw d) f = Answer.drawn (drawAnswer d w h f)
+  answerTo (Call.draw engine d) f = Answer.drawn (drawAnswer d w h f)
   answerTo (Call.read a) f = Answer.word (readAnswer a w h f)
   answerTo (Call.reads a ws ns) f = Answer.run (runAnswer a w h f ws ns)
-  answerTo (Call.pixel d k) f = Answer.masked (emittedAnswer d w h f k)
-  answerTo (Call.pixels d first ps ms) f = Answer.listed (emittedRun d w h f first ps ms)
+  answerTo (Call.pixel engine d k) f = Answer.masked (emittedAnswer d w h f k)
+  answerTo (Call.pixels engine d first ps ms) f = Answer.listed (emittedRun d w h f first ps ms)
 
   -- only an accepted draw writes the frame; the slices that a run writes are a part of its answer
   abbrev pub frameAfter : Call → Frame → Frame
-  frameAfter (Call.draw d) f = drawFrame d w h f
+  frameAfter (Call.draw engine d) f = drawFrame d w h f
   frameAfter (Call.read a) f = f
   frameAfter (Call.reads a ws ns) f = f
-  frameAfter (Call.pixel d k) f = f
-  frameAfter (Call.pixels d first ps ms) f = f
+  frameAfter (Call.pixel engine d k) f = f
+  frameAfter (Call.pixels engine d first ps ms) f = f
 
   -- the answers to a list, each call on the frame that the call before left
   abbrev pub answers : List Call → Frame → List Answer

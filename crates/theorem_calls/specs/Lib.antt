@@ -1,2 +1,3 @@
--- A list of calls on one frame.
+-- A list of calls on one frame, and lists that differ only in the engines that they choose.
 pub mod Calls
+pub mod Choices

@@ -25,6 +25,7 @@ use Rattle.raster_pixel.proofs.Placed.{Placed}
 use Rattle.frame.specs.Frame.{Frame, pixelAt}
 use Rattle.frame_paint.specs.Steps.{sourceOf, stepFrame, drawList}
 use Rattle.frame.specs.Checks.{frameRefusal, orElse}
+use Rattle.frame_draw.specs.declared.Engine.{Engine}
 use Rattle.frame_draw.specs.Draw.{DrawArgs, Plan, planOf, frameBy, drawFrame}
 use Rattle.frame_draw.proofs.Frames.{pixelsOf, plan-same, draw-same, plan-marked}
 use Rattle.frame_emitted.proofs.Frames.{pixel-same, pixels-same}
@@ -128,8 +129,8 @@ module _ (mode : RenderMode) (k : Combiner) (p : ℕ) where
       ∙ ap (lastAt p (verdicts mode k (stepFrame mode k f e) es)) (step-mark f e l)
 
 -- what a plan emits has mark bytes
-module _ (w h : ℕ) (d : DrawArgs) (f : Frame) where
-  draw-mark : (p : ℕ) → knownAt p (drawFrame d w h f) ≡ lastAt p (saidBy w h (Call.draw d) f) (knownAt p f)
+module _ (w h : ℕ) (engine : Engine) (d : DrawArgs) (f : Frame) where
+  draw-mark : (p : ℕ) → knownAt p (drawFrame d w h f) ≡ lastAt p (saidBy w h (Call.draw engine d) f) (knownAt p f)
   unfolding drawFrame saidBy
   draw-mark p = go (planOf d w h f) (plan-marked d w h f)
     where
@@ -151,11 +152,11 @@ last-append p (s ∷ ss) ts b = last-append p ss ts (cond (eqb (s .pixel) p) (s 
 module _ (w h : ℕ) where
   keeps : (o : Call) → Keeps w h o
   unfolding saidBy
-  keeps (Call.draw d) =
+  keeps (Call.draw engine d) =
       record {
         same = λ f g a. ap Answer.drawn (draw-same d w h f g (refusal-same w h a));
         alike = λ f g a. draw-alike w h a d;
-        marked = λ f p. draw-mark w h d f p;
+        marked = λ f p. draw-mark w h engine d f p;
       }
   keeps (Call.read r) =
       record {
@@ -169,13 +170,13 @@ module _ (w h : ℕ) where
         alike = λ f g a. a;
         marked = λ f p. refl;
       }
-  keeps (Call.pixel d k) =
+  keeps (Call.pixel engine d k) =
       record {
         same = λ f g a. ap Answer.masked (pixel-same d w h f g (refusal-same w h a) k);
         alike = λ f g a. a;
         marked = λ f p. refl;
       }
-  keeps (Call.pixels d first ps ms) =
+  keeps (Call.pixels engine d first ps ms) =
       record {
         same = λ f g a. ap Answer.listed (pixels-same d w h f g (refusal-same w h a) first ps ms);
         alike = λ f g a. a;

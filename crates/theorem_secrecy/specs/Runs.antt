@@ -40,11 +40,11 @@ saidByPlan mode f (Plan.accept k es) = verdicts mode k f es
 
 module _ (w h : ℕ) where
   unfoldable pub saidBy : Call → Frame → List Said
-  saidBy (Call.draw d) f = saidByPlan (d .mode) f (planOf d w h f)
+  saidBy (Call.draw engine d) f = saidByPlan (d .mode) f (planOf d w h f)
   saidBy (Call.read a) f = []
   saidBy (Call.reads a ws ns) f = []
-  saidBy (Call.pixel d k) f = []
-  saidBy (Call.pixels d first ps ms) f = []
+  saidBy (Call.pixel engine d k) f = []
+  saidBy (Call.pixels engine d first ps ms) f = []
 
   abbrev pub said : List Call → Frame → List Said
   said [] f = []

@@ -54,11 +54,11 @@ module _ (w h : ℕ) where
   console-after (o ∷ os) f a = console-after os (frameAfter w h o f) (call-all-known w h o f a) ∙ ap (consoleAfterAll w h os) (call o)
     where
       call : (o : Call) → frameAfter w h o f ≡ consoleAfter w h o f
-      call (Call.draw d) = draw-is w h d f a
+      call (Call.draw engine d) = draw-is w h d f a
       call (Call.read r) = refl
       call (Call.reads r ws ns) = refl
-      call (Call.pixel d k) = refl
-      call (Call.pixels d first ps ms) = refl
+      call (Call.pixel engine d k) = refl
+      call (Call.pixels engine d first ps ms) = refl
 
 -- ---- what is handed out
 module _ (f : Frame) (colors coverages : ℕ → ℕ) (w h : ℕ) (low : (p : ℕ) → coverages p ≤ 7) (e : frameRefusal f w h ≡ 0) (os : List Call) where

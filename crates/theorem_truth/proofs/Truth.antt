@@ -73,19 +73,19 @@ record Keeps (w h : ℕ) (o : Call) : Type 0 where
 
 module _ (w h : ℕ) where
   keeps : (o : Call) → Keeps w h o
-  keeps (Call.draw d) =
+  keeps (Call.draw engine d) =
       record {
         tells = λ g f a. subst (λ (v : DrawAnswer). TellsAnswer (Answer.drawn v) (Answer.drawn (drawAnswer d w h f))) (sym (draw-same d w h g f (a .numbers))) TellsAnswer.drawn;
         knows = λ g f a. draw-knows w h a d;
       }
   keeps (Call.read r) = record { tells = λ g f a. TellsAnswer.word (read-tells w h a r); knows = λ g f a. a }
   keeps (Call.reads r ws ns) = record { tells = λ g f a. TellsAnswer.run (run-tells w h a r ws ns); knows = λ g f a. a }
-  keeps (Call.pixel d k) =
+  keeps (Call.pixel engine d k) =
       record {
         tells = λ g f a. subst (λ (v : PixelAnswer). TellsAnswer (Answer.masked v) (Answer.masked (emittedAnswer d w h f k))) (sym (pixel-same d w h g f (a .numbers) k)) TellsAnswer.masked;
         knows = λ g f a. a;
       }
-  keeps (Call.pixels d first ps ms) =
+  keeps (Call.pixels engine d first ps ms) =
       record {
         tells = λ g f a. subst (λ (v : PixelsAnswer). TellsAnswer (Answer.listed v) (Answer.listed (emittedRun d w h f first ps ms))) (sym (pixels-same d w h g f (a .numbers) first ps ms)) TellsAnswer.listed;
         knows = λ g f a. a;
@@ -140,11 +140,11 @@ draw-all-known w h d f a = go (planOf d w h f)
     go (Plan.accept k es) = list-all-known (d .mode) k f es a
 
 pub call-all-known : (w h : ℕ) (o : Call) (f : Frame) → AllKnown f → AllKnown (frameAfter w h o f)
-call-all-known w h (Call.draw d) f a = draw-all-known w h d f a
+call-all-known w h (Call.draw engine d) f a = draw-all-known w h d f a
 call-all-known w h (Call.read r) f a = a
 call-all-known w h (Call.reads r ws ns) f a = a
-call-all-known w h (Call.pixel d k) f a = a
-call-all-known w h (Call.pixels d first ps ms) f a = a
+call-all-known w h (Call.pixel engine d k) f a = a
+call-all-known w h (Call.pixels engine d first ps ms) f a = a
 
 -- Everything stays known along any list.
 pub all-known-after : (w h : ℕ) (os : List Call) (f : Frame) → AllKnown f → AllKnown (frameAfterAll w h os f)

@@ -23,11 +23,11 @@ consoleBy mode (Plan.accept k es) f = consoleList mode k f es
 module _ (w h : ℕ) where
   -- after a call, and after a list of them
   abbrev pub consoleAfter : Call → Frame → Frame
-  consoleAfter (Call.draw d) f = consoleBy (d .mode) (planOf d w h f) f
+  consoleAfter (Call.draw engine d) f = consoleBy (d .mode) (planOf d w h f) f
   consoleAfter (Call.read a) f = f
   consoleAfter (Call.reads a ws ns) f = f
-  consoleAfter (Call.pixel d k) f = f
-  consoleAfter (Call.pixels d first ps ms) f = f
+  consoleAfter (Call.pixel engine d k) f = f
+  consoleAfter (Call.pixels engine d first ps ms) f = f
 
   abbrev pub consoleAfterAll : List Call → Frame → Frame
   consoleAfterAll [] f = f

@@ -1,0 +1,2 @@
+-- That a list of calls does not turn on the engines.
+pub mod Engines
