@@ -129,6 +129,7 @@ fn place(upper: u32, lower: u32) -> u64 {
 }
 
 fn ask_draw(
+    engine: u8,
     width: u32,
     height: u32,
     colors: &mut [u8],
@@ -140,6 +141,7 @@ fn ask_draw(
     indices: &[u32],
 ) -> c_frame::DrawnAnswer {
     c_frame::draw(
+        engine,
         width,
         height,
         colors,
@@ -160,6 +162,7 @@ fn ask_draw(
 pub fn draw(
     s: &[u8],
     at: usize,
+    engine: u8,
     width: u32,
     height: u32,
     colors: &mut [u8],
@@ -179,6 +182,7 @@ pub fn draw(
     let b = lists.flags;
     let c = lists.indices;
     let answer = ask_draw(
+        engine,
         width,
         height,
         colors,
@@ -193,6 +197,7 @@ pub fn draw(
 }
 
 fn ask_pixel(
+    engine: u8,
     width: u32,
     height: u32,
     colors: &[u8],
@@ -205,6 +210,7 @@ fn ask_pixel(
     k: u64,
 ) -> c_frame::emitted::EmittedAnswer {
     c_frame::emitted::emitted_pixel(
+        engine,
         width,
         height,
         colors,
@@ -226,6 +232,7 @@ fn ask_pixel(
 pub fn emitted_pixel(
     s: &[u8],
     at: usize,
+    engine: u8,
     width: u32,
     height: u32,
     colors: &[u8],
@@ -248,6 +255,7 @@ pub fn emitted_pixel(
     let c = lists.indices;
     let k = place(upper.value, lower.value);
     let answer = ask_pixel(
+        engine,
         width,
         height,
         colors,
@@ -272,6 +280,7 @@ pub fn emitted_pixel(
 fn ask_run(
     s: &[u8],
     at: usize,
+    engine: u8,
     width: u32,
     height: u32,
     colors: &[u8],
@@ -286,6 +295,7 @@ fn ask_run(
     masks: &mut [u8],
 ) -> Outcome {
     let answer = c_frame::emitted::emitted_pixels(
+        engine,
         width,
         height,
         colors,
@@ -316,6 +326,7 @@ fn ask_run(
 fn run_of(
     s: &[u8],
     at: usize,
+    engine: u8,
     width: u32,
     height: u32,
     colors: &[u8],
@@ -342,6 +353,7 @@ fn run_of(
     ask_run(
         s,
         end,
+        engine,
         width,
         height,
         colors,
@@ -361,6 +373,7 @@ fn run_of(
 pub fn emitted_pixels(
     s: &[u8],
     at: usize,
+    engine: u8,
     width: u32,
     height: u32,
     colors: &[u8],
@@ -382,6 +395,7 @@ pub fn emitted_pixels(
     run_of(
         s,
         end,
+        engine,
         width,
         height,
         colors,

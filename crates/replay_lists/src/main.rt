@@ -1,6 +1,6 @@
 // Replays recorded lists of draws, emitted pixels and word reads on the port: reads lines of standard input, each a frame or a call
 // with what it came to on the Rust original's functions, carries the calls out on a frame of its own, and counts how often the two
-// agree.
+// agree: of the fast engine first, and then of the slow one.
 //
 //     frame width height colors coverages marks
 //     draw mode uniform cull scissor geometry vertices present indices = number pixels colors coverages marks
@@ -68,7 +68,7 @@ fn draw_line(
     coverages: &mut [u8],
     marks: &mut [u8],
 ) -> Tally {
-    let drawn = calls::draw(s, at, width, height, colors, coverages, marks);
+    let drawn = calls::draw(s, at, t.engine, width, height, colors, coverages, marks);
     let recorded = drawn.next;
     let frame = same_frame(s, recorded, colors, coverages, marks);
     let counted = tally::draw(t, drawn.agrees);
@@ -107,7 +107,7 @@ fn mask_line(
     coverages: &mut [u8],
     marks: &mut [u8],
 ) -> Tally {
-    let asked = calls::emitted_pixel(s, at, width, height, colors, coverages, marks);
+    let asked = calls::emitted_pixel(s, at, t.engine, width, height, colors, coverages, marks);
     let recorded = t.recorded;
     let frame = same_frame(s, recorded, colors, coverages, marks);
     let agrees = asked.agrees & (asked.next == end);
@@ -127,7 +127,7 @@ fn masks_line(
     coverages: &mut [u8],
     marks: &mut [u8],
 ) -> Tally {
-    let asked = calls::emitted_pixels(s, at, width, height, colors, coverages, marks);
+    let asked = calls::emitted_pixels(s, at, t.engine, width, height, colors, coverages, marks);
     let recorded = t.recorded;
     let frame = same_frame(s, recorded, colors, coverages, marks);
     let agrees = asked.agrees & (asked.next == end);
@@ -255,9 +255,9 @@ fn list(s: &[u8], at: usize, end: usize, next: usize, t: Tally) -> Listed
     )
 }
 
-// Tallies every line of a text.
-fn replay(s: &[u8]) -> Tally {
-    let mut tally = tally::start();
+// Tallies every line of a text, asked of one engine.
+fn replay(s: &[u8], engine: u8) -> Tally {
+    let mut tally = tally::start(engine);
     let mut at = 0;
     while at < s.len() {
         let end = line_end(s, at);
@@ -274,7 +274,10 @@ fn main() {
     let mut text = space();
     let n = io::read_full(0, &mut text);
     if n < SPACE {
-        tally::print(replay(&text[..n]));
+        io::write_all(1, b"the fast engine\n");
+        tally::print(replay(&text[..n], 0));
+        io::write_all(1, b"the slow engine\n");
+        tally::print(replay(&text[..n], 1));
     } else {
         io::write_all(1, b"input too long\n");
     }

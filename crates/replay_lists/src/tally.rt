@@ -1,6 +1,7 @@
 // How many calls there were and how many of them agree, and what is printed of them.
 
 pub struct Tally {
+    pub engine: u8, // that is asked, by its number in the C interface
     pub recorded: usize, // where the text has the slices as the last call left them
     pub line: u64, // of the text, from 1 on
     pub draws: u64, // seen
@@ -16,8 +17,9 @@ pub struct Tally {
     pub others: u64, // lines of no known form
 }
 
-pub fn start() -> Tally {
+pub fn start(engine: u8) -> Tally {
     Tally {
+        engine,
         recorded: 0,
         line: 0,
         draws: 0,

@@ -6,10 +6,10 @@ use Rattle.replay_lists.proofs.replay.Statement.{statement}
 use Rattle.replay_lists.proofs.replay.Tie as tie
 
 abbrev Inv-loop : tie.InvT-loop
-Inv-loop s tally₀ at₀ tally at = 0 ≤ at
+Inv-loop s engine tally₀ at₀ tally at = 0 ≤ at
 
 abbrev μ-loop : tie.MeasureT-loop
-μ-loop s tally₀ at₀ tally at = length s - at
+μ-loop s engine tally₀ at₀ tally at = length s - at
 
 start-requires : tie.Need-start-requires Inv-loop μ-loop
 start-requires c κs = search needs
