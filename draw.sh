@@ -1,5 +1,5 @@
 #!/usr/bin/env bash
-# Carries out a file of draws and word reads and writes the picture: ./draw.sh FILE PICTURE. docs/FORMAT.md describes the file.
+# Carries out a file of draws and word reads and writes the picture: ./draw.sh FILE PICTURE [SAMPLES]. docs/FORMAT.md describes the file and the pictures.
 set -euo pipefail
 here="$(dirname "$0")"
 player="$here/player"

@@ -157,6 +157,43 @@ impl Default for Scissor {
     }
 }
 
+/// Which engine finds the pixels of a draw. Both find the same pixels in the same order, so that no answer and no byte of a
+/// frame turns on it.
+///
+/// A restorer who holds the library beside the console's papers reads the slow one, and draws with it to see that what was read is
+/// what the fast one does. docs/RASTERISER.md of the repository walks through it on one triangle.
+///
+/// ```
+/// use writeback::{Draw, Engine, Frame, Geometry, RenderMode, Vertex, Vertices};
+///
+/// let corner = |x, y| Vertex { position: [x, y], color: [1.0; 4] };
+/// let vertices: Vertices = [corner(1.0, 0.5), corner(14.75, 4.0), corner(3.0, 11.0)].into_iter().collect();
+/// let fast = Draw {
+///     mode: RenderMode { antialias: true, ..RenderMode::default() },
+///     geometry: Geometry::Triangles,
+///     vertices: &vertices,
+///     indices: &[0, 1, 2],
+///     ..Draw::default()
+/// };
+/// let slow = Draw { engine: Engine::Slow, ..fast };
+///
+/// let mut frame = Frame::new(16, 12)?;
+/// let mut other = frame.clone();
+/// assert_eq!(frame.emitted_pixels(&fast), other.emitted_pixels(&slow));
+/// assert_eq!(frame.draw(&fast), other.draw(&slow));
+/// assert_eq!(frame, other);
+/// # Ok::<(), writeback::Refusal>(())
+/// ```
+#[derive(Clone, Copy, Debug, Default, PartialEq, Eq, Hash)]
+pub enum Engine {
+    /// The one to draw with: it works out ahead which pixels of a row are hit.
+    #[default]
+    Fast,
+    /// The one to read: for each triangle, or for the rectangle, it visits every pixel of the frame inside the scissor and tests
+    /// its eight samples. So it takes triangles times the scissor's area times eight tests.
+    Slow,
+}
+
 /// A draw. Every value of every field may be handed over: what the library does not draw it turns away with a number.
 ///
 /// The lists are checked for any geometry (number 5), and read for triangles alone.
@@ -176,11 +213,13 @@ pub struct Draw<'a> {
     pub vertices: &'a Vertices,
     /// Three for each triangle.
     pub indices: &'a [u32],
+    /// How the pixels are found. What is drawn does not turn on it.
+    pub engine: Engine,
 }
 
 static NO_VERTICES: Vertices = Vertices::new();
 
-/// Nothing, with default mode and uniform, not cut and not culled.
+/// Nothing, with default mode and uniform, not cut and not culled, by the fast engine.
 impl Default for Draw<'_> {
     fn default() -> Self {
         Draw {
@@ -191,6 +230,7 @@ impl Default for Draw<'_> {
             geometry: Geometry::Nothing,
             vertices: &NO_VERTICES,
             indices: &[],
+            engine: Engine::Fast,
         }
     }
 }

@@ -125,6 +125,7 @@ pub(crate) fn draw(frame: FrameMut, draw: &Draw) -> Result<u64, Refusal> {
     // SAFETY: each pointer and length is a slice's that is borrowed for the call, the three that are written by `&mut`.
     let drawn = unsafe {
         wb_draw(
+            draw.engine as u8,
             width,
             height,
             colors.as_mut_ptr(),
@@ -156,6 +157,7 @@ pub(crate) fn emitted_pixel(frame: Frame, draw: &Draw, k: u64) -> Result<Option<
     // SAFETY: each pointer and length is a slice's that is borrowed for the call.
     let emitted = unsafe {
         wb_emitted_pixel(
+            draw.engine as u8,
             width,
             height,
             colors.as_ptr(),
@@ -195,6 +197,7 @@ pub(crate) fn emitted_pixels(
     // SAFETY: each pointer and length is a slice's that is borrowed for the call, the two that are written by `&mut`.
     let run = unsafe {
         wb_emitted_pixels(
+            draw.engine as u8,
             width,
             height,
             colors.as_ptr(),

@@ -3,9 +3,13 @@
 //!
 //! A [`Frame`] holds colours and coverages, with marks that say which are known. [`Frame::draw`] carries out a [`Draw`] on
 //! it, and [`Frame::emitted_pixels`] lists the pixels that a draw would emit, each with the samples that it hits;
-//! [`Frame::read_word`] answers a pixel as the game would read it from memory, and [`Frame::read_words`] many pixels at once. A call either succeeds or is turned away with a [`Refusal`], whose `Display` is one line for a log; then it changes
+//! [`Frame::read_word`] answers a pixel as the game would read it from memory, and [`Frame::read_words`] many pixels at
+//! once. A call either succeeds or is turned away with a [`Refusal`], whose `Display` is one line for a log; then it changes
 //! nothing. No call panics, whatever it is given. docs/RULES.md of the repository has the rules: which pixels a draw emits,
 //! what each does to colours, coverages and marks (F1 to F5), how words are made, and the numbers of the refusals.
+//!
+//! A draw's pixels are found by one of two engines ([`Draw::engine`]): a fast one, and a slow one that is there to be read
+//! beside the console's papers. Nothing that a call answers or writes turns on which.
 //!
 //! ```
 //! use writeback::{AlphaIn, ColorIn, CombinerUniform, CycleSel, Draw, Frame, Geometry, Refusal, RenderMode, Writer};
@@ -55,7 +59,7 @@ mod selectors;
 mod uniform;
 mod word;
 
-pub use draw::{Draw, Geometry, Scissor, Vertex, Vertices};
+pub use draw::{Draw, Engine, Geometry, Scissor, Vertex, Vertices};
 pub use emitted::{EmittedPixel, EmittedRun, SAMPLES};
 pub use frame::Frame;
 pub use mode::{AlphaCompare, BlendAlpha, BlendClass, BlendFactor, BlendSource, Blender, RenderMode, ZMode};

@@ -1,9 +1,9 @@
-//! Every reason to turn a call away, at its limits, and values that no player should hand over. Nothing may crash, and a call
-//! that is turned away changes nothing.
+//! Every reason to turn a call away, at its limits, and values that no player should hand over. Nothing may crash, a call that
+//! is turned away changes nothing, and both engines do the same.
 
 use writeback::{
     AlphaCompare, AlphaIn, BlendClass, ColorIn, CombinerUniform, CycleSel, Draw, EmittedPixel, EmittedRun, Encoding,
-    Frame, Geometry, Refusal, RenderMode, Scissor, Vertex, Vertices, Writer, ZMode, SAMPLES,
+    Engine, Frame, Geometry, Refusal, RenderMode, Scissor, Vertex, Vertices, Writer, ZMode, SAMPLES,
 };
 
 fn flat() -> CombinerUniform {
@@ -28,9 +28,20 @@ fn corners() -> Vertices {
     [[0.0, 0.0], [8.0, 0.0], [0.0, 8.0]].into_iter().map(|position| Vertex { position, color: [1.0; 4] }).collect()
 }
 
-/// The draw's answer; turned away, it must leave the frame as it was. Asked for its pixels before, it must be answered alike,
-/// in every way in which they can be asked for.
+/// The draw's answer. Both engines must answer the same and leave the same frame.
 fn answer(frame: &mut Frame, draw: &Draw) -> Result<u64, u32> {
+    let mut other = frame.clone();
+    let by_slow = answer_by(Engine::Slow, &mut other, draw);
+    let by_fast = answer_by(Engine::Fast, frame, draw);
+    assert_eq!(by_slow, by_fast);
+    assert!(other == *frame, "the engines leave different frames");
+    by_fast
+}
+
+/// An engine's answer; turned away, it must leave the frame as it was. Asked for its pixels before, it must be answered alike,
+/// in every way in which they can be asked for.
+fn answer_by(engine: Engine, frame: &mut Frame, draw: &Draw) -> Result<u64, u32> {
+    let draw = &Draw { engine, ..*draw };
     let before = frame.clone();
     let listed = listed(frame, draw).map_err(Refusal::number);
     assert!(*frame == before, "asked for pixels, and changed something");
@@ -334,6 +345,7 @@ fn masks() {
     let smooth = RenderMode { antialias: true, ..whole().mode };
     let masks = |draw: Draw| -> Vec<(usize, u8)> {
         let list = frame.emitted_pixels(&draw).unwrap();
+        assert_eq!(frame.emitted_pixels(&Draw { engine: Engine::Slow, ..draw }).unwrap(), list);
         list.iter().map(|emitted| (emitted.pixel, emitted.mask)).collect()
     };
     let sides = |left, top, right, bottom| Draw {
@@ -364,20 +376,23 @@ fn masks() {
 #[test]
 fn slices_for_masks() {
     let frame = Frame::new(2, 2).unwrap();
-    for (pixels, masks) in [(0, 1), (1, 0), (3, 4), (4, 3), (100, 0)] {
-        let (mut pixels, mut masks) = (vec![BEFORE.0; pixels], vec![BEFORE.1; masks]);
-        for first in [0, 4, u64::MAX] {
-            let run = frame.emitted_pixels_from(&whole(), first, &mut pixels, &mut masks);
-            assert_eq!(run, Err(Refusal::SLOTS));
-            let nothing = Draw { geometry: Geometry::Nothing, ..whole() };
-            let run = frame.emitted_pixels_from(&nothing, first, &mut pixels, &mut masks);
-            assert_eq!(run, Err(Refusal::GEOMETRY));
+    for engine in [Engine::Fast, Engine::Slow] {
+        let whole = Draw { engine, ..whole() };
+        for (pixels, masks) in [(0, 1), (1, 0), (3, 4), (4, 3), (100, 0)] {
+            let (mut pixels, mut masks) = (vec![BEFORE.0; pixels], vec![BEFORE.1; masks]);
+            for first in [0, 4, u64::MAX] {
+                let run = frame.emitted_pixels_from(&whole, first, &mut pixels, &mut masks);
+                assert_eq!(run, Err(Refusal::SLOTS));
+                let nothing = Draw { geometry: Geometry::Nothing, ..whole };
+                let run = frame.emitted_pixels_from(&nothing, first, &mut pixels, &mut masks);
+                assert_eq!(run, Err(Refusal::GEOMETRY));
+            }
+            assert!(pixels.iter().all(|pixel| *pixel == BEFORE.0) && masks.iter().all(|mask| *mask == BEFORE.1));
         }
-        assert!(pixels.iter().all(|pixel| *pixel == BEFORE.0) && masks.iter().all(|mask| *mask == BEFORE.1));
+        let (run, slots) = slots(&frame, &whole, 3, 3);
+        assert_eq!(run, Ok(EmittedRun { listed: 1, emitted: 4 }));
+        assert_eq!(slots, [(3, 0xff), (0, 0), (0, 0)]);
     }
-    let (run, slots) = slots(&frame, &whole(), 3, 3);
-    assert_eq!(run, Ok(EmittedRun { listed: 1, emitted: 4 }));
-    assert_eq!(slots, [(3, 0xff), (0, 0), (0, 0)]);
 }
 
 /// The largest frame, filled by as many triangles as number 5 lets through: 2^32 pixels, of which the last one's place has 32 bits
@@ -399,6 +414,11 @@ fn the_most_pixels() {
     // From one triangle into the next.
     let (run, between) = slots(&frame, &draw, (1 << 31) - 1, 2);
     assert_eq!(run, Ok(EmittedRun { listed: 2, emitted: 1 << 32 }));
+    assert_eq!(between, [(1_048_575, 0xee), (0, 0xff)]);
+    // The slow engine would test 2^35 samples of all these triangles, and gets two.
+    let two = Draw { engine: Engine::Slow, indices: &draw.indices[..6], ..draw };
+    let (run, between) = slots(&frame, &two, (1 << 20) - 1, 2);
+    assert_eq!(run, Ok(EmittedRun { listed: 2, emitted: 1 << 21 }));
     assert_eq!(between, [(1_048_575, 0xee), (0, 0xff)]);
 }
 
@@ -476,6 +496,7 @@ fn draws_of_any_bits() {
             },
             vertices: &vertices,
             indices: &indices,
+            engine: Engine::Fast,
         };
         let answer = answer(&mut frame, &draw);
         seen[answer.map_or_else(|number| number, |_| 0) as usize] += 1;

@@ -108,6 +108,24 @@ fn sample() {
     assert_eq!(block(&picture, 288, 219), BTreeSet::from(HATCH));
 }
 
+/// With `engine slow` in the empty line behind `frame`, every line, every log line and every byte of the picture is the same.
+#[test]
+fn the_sample_by_the_slow_engine() {
+    let folder = Folder::new();
+    let sample = include_str!("../samples/album.txt");
+    let slow = sample.replacen("frame 320 240\n\n", "frame 320 240\nengine slow\n", 1);
+    assert_ne!(slow, sample);
+    fs::create_dir(folder.path("samples")).unwrap();
+    let picture = |text: &str| {
+        fs::write(folder.path("samples/album.txt"), text).unwrap();
+        let output = program().current_dir(&folder.0).args(["samples/album.txt", "album.png"]).output().unwrap();
+        assert_eq!(self::text(&output.stdout), include_str!("../samples/album.out"));
+        assert_eq!(self::text(&output.stderr), include_str!("../samples/album.log"));
+        fs::read(folder.path("album.png")).unwrap()
+    };
+    assert!(picture(&slow) == picture(sample), "the pictures differ");
+}
+
 #[test]
 fn the_least_file() {
     assert_eq!(carried("frame 1 1"), ("calls 0, log lines 0\n".into(), "".into()));
@@ -192,6 +210,141 @@ fn masks_of_many_pixels() {
     assert_eq!(log, "");
 }
 
+/// A draw as the slow engine goes through it, whatever the engine that is set. Nothing is drawn.
+#[test]
+fn samples() {
+    let (lines, log) = carried(
+        "frame 4 3\nscissor 1 0 2 1\ncombine zero zero zero one zero zero zero one\nsamples rectangle 1.25 0 1.875 0.5\n\
+         vertex 3 0.125 1 1 1 1\nvertex 1 0 1 1 1 1\nvertex 2.5 1 1 1 1 1\ncull on\nengine slow\n\
+         samples triangles 0 1 2  1 0 2\nengine fast\ncull off\nmode antialias on\nsamples triangles 1 0 2\n\
+         samples triangles 0 0 0\nscissor 4 0 9 9\nsamples triangles 1 0 2\nsamples triangles\nsamples nothing\n\
+         samples triangles 0\nword 1\n",
+    );
+    // The corner at 3, 0.125 lies between two quarter lines, and goes to the lower one.
+    let triangle = "    corners in quarters of a pixel: 4,0  12,1  10,4
+    the high edge is the major one, at the left
+    high edge: slope 98304, x 65536 on line 0
+    middle edge: slope 524288, x 65536 on line 0
+    low edge: slope -43696, x 196608 on line 1
+";
+    let rows = "    row 0
+      line 0: from 8 up to 8
+      line 1: from 11 up to 24
+      line 2: from 14 up to 23
+      line 3: from 17 up to 21
+      pixel 1 at 1,0:  8. 12.  10. 14#  8. 12.  10. 14.  = 10, emitted with antialias alone
+      pixel 2 at 2,0:  16. 20.  18# 22#  16# 20#  18# 22.  = 3e, emitted with antialias alone
+            1    2
+         +----+----+
+       0 |. . |. . |
+       1 | . #| # #|
+       2 |. . |# # |
+       3 | . .| # .|
+         | 10 | 3e |
+         +----+----+
+";
+    let expected = format!(
+        "line 4: samples rectangle: 0 pixels
+  rectangle 1.25 0 1.875 0.5
+    row 0
+      line 0: from 10 up to 15
+      line 1: from 10 up to 15
+      line 2: nothing
+      line 3: nothing
+      pixel 1 at 1,0:  8. 12#  10# 14#  8. 12.  10. 14.  = 70, emitted with antialias alone
+      pixel 2 at 2,0:  16. 20.  18. 22.  16. 20.  18. 22.  = 00
+            1    2
+         +----+----+
+       0 |. # |. . |
+       1 | # #| . .|
+       2 |. . |. . |
+       3 | . .| . .|
+         | 70 | 00 |
+         +----+----+
+line 10: samples triangles: 0 pixels
+  triangle 0 1 2
+{triangle}{rows}  triangle 1 0 2: culled
+line 14: samples triangles: 2 pixels
+  triangle 1 0 2
+{triangle}{rows}line 15: samples triangles: 0 pixels
+  triangle 0 0 0: no area in quarters of a pixel
+line 17: samples triangles: 0 pixels
+  triangle 1 0 2
+{triangle}    no pixel of the frame is inside the scissor
+line 18: samples triangles: 0 pixels
+line 19: samples nothing: turned away, number 7
+line 20: samples triangles: turned away, number 5
+line 21: word 1: turned away, number 10
+calls 9, log lines 3
+"
+    );
+    assert_eq!(lines, expected);
+    assert_eq!(log.lines().count(), 3);
+}
+
+/// Triangles and rectangles near the frame and far from it: where the library departed from the rules, the program would say so.
+#[test]
+fn samples_of_many_draws() {
+    let mut state = 7u64;
+    let mut below = |limit: u64| {
+        state = state.wrapping_mul(6_364_136_223_846_793_005).wrapping_add(1_442_695_040_888_963_407);
+        (state >> 33) % limit
+    };
+    let mut file = "frame 6 5\nscissor 1 0 5 4\ncombine zero zero zero one zero zero zero one\n".to_string();
+    for _ in 0..500 {
+        file += if below(2) == 0 { "no_vertices\ncull off\n" } else { "no_vertices\ncull on\n" };
+        // Eighths lie on quarter lines and halfway between them, hundredths anywhere.
+        let unit = [4.0, 8.0, 100.0][below(3) as usize];
+        let reach = [9.0, 1000.0][below(2) as usize];
+        let mut side = || (below((reach * unit) as u64) as f32 / unit - reach / 3.0).to_string();
+        for _ in 0..3 {
+            file += &format!("vertex {} {} 1 1 1 1\n", side(), side());
+        }
+        file += &format!("samples triangles 0 1 2\nsamples rectangle {} {} {} {}\n", side(), side(), side(), side());
+    }
+    let (lines, log) = carried(file);
+    assert_eq!((lines.lines().last(), log.as_str()), (Some("calls 1000, log lines 0"), ""));
+    assert!(["culled", "= ff", "with antialias alone"].iter().all(|part| lines.matches(part).count() > 50));
+}
+
+/// The most that one statement goes through, and a row of pixels more.
+#[test]
+fn samples_of_too_many_pixels() {
+    let (lines, _) = carried("frame 32 33\nscissor 0 0 32 32\nsamples rectangle 0 0 1 1\n");
+    assert_eq!(lines.lines().filter(|line| line.starts_with("      pixel ")).count(), 1024);
+    const TOO_MANY: &str = "samples: the draw visits 1056 pixels, and the most is 1024";
+    wrong("frame 32 33\nsamples rectangle 0 0 1 1\n", &format!("2: {TOO_MANY}"));
+    wrong_statement(&format!("samples triangles{}", " 0 1 2".repeat(22)), TOO_MANY);
+}
+
+/// The second picture is of the last shape that was gone through; it is asked for by a third argument.
+#[test]
+fn a_picture_of_samples() {
+    let folder = Folder::new();
+    let run = |file: &str, arguments: &[&str]| {
+        fs::write(folder.path("in.txt"), file).unwrap();
+        program().current_dir(&folder.0).args(arguments).output().unwrap()
+    };
+    const SAMPLES: &str = "frame 4 4\nscissor 0 0 3 2\nsamples rectangle 0 0 9 9\nsamples rectangle 0 0 0.25 0.25\n";
+    for (file, arguments, message) in [
+        ("frame 4 4\n", ["in.txt", "out.png", "samples.png"], "in.txt: there are no samples for a picture"),
+        (SAMPLES, ["in.txt", "out.png", "out.png"], "out.png: one picture would replace the other"),
+        (SAMPLES, ["in.txt", "out.png", "./out.png"], "out.png: one picture would replace the other"),
+        (SAMPLES, ["in.txt", "out.png", "in.txt"], "in.txt: the picture would replace the file"),
+        (SAMPLES, ["in.txt", "out.png", "-"], "usage: writeback FILE PICTURE [SAMPLES], or writeback --help"),
+    ] {
+        let output = run(file, &arguments);
+        assert_eq!((text(&output.stderr), output.status.code()), (format!("{message}\n"), Some(2)));
+        assert_eq!(folder.names().len(), 1);
+    }
+    assert_eq!(run(SAMPLES, &["in.txt", "out.png", "samples.png"]).status.code(), Some(0));
+    let picture = png::read(&fs::read(folder.path("samples.png")).unwrap());
+    assert_eq!((picture.width, picture.height), (3 * 64 + 25, 2 * 64 + 25));
+    // The first sample is hit, and the one right of it is not.
+    let at = |x: usize, y: usize| picture.rgb[3 * (y * picture.width + x)];
+    assert_eq!([at(12, 12), at(12 + 32, 12), at(12 + 36, 12)], [0, 255, 0]);
+}
+
 /// Every field of the mode, the uniform and the writer can be set, and set back.
 #[test]
 fn every_field() {
@@ -242,6 +395,8 @@ fn statements() {
     wrong_statement("masks", "masks: one of triangles, rectangle, nothing is missing");
     wrong_statement("masks word 0", "masks: \"word\" is none of triangles, rectangle, nothing");
     wrong_statement("masks masks nothing", "masks: \"masks\" is none of triangles, rectangle, nothing");
+    wrong_statement("samples", "samples: one of triangles, rectangle, nothing is missing");
+    wrong_statement("samples masks nothing", "samples: \"masks\" is none of triangles, rectangle, nothing");
 }
 
 #[test]
@@ -278,6 +433,9 @@ fn settings() {
     wrong_statement("writer encoding big", "encoding: \"big\" is none of native, big_endian");
     wrong_statement("cull", "cull: one of off, on is missing");
     wrong_statement("cull on off", "\"off\" is one word too many");
+    wrong_statement("engine", "engine: one of fast, slow is missing");
+    wrong_statement("engine 1", "engine: \"1\" is none of fast, slow");
+    wrong_statement("engine slow fast", "\"fast\" is one word too many");
     wrong_statement("scissor 0 0 8", "the scissor: a number is missing");
     wrong_statement("scissor 0 0 8 4294967296", "the scissor: \"4294967296\" is no whole number from 0 to 4294967295");
 }
@@ -321,6 +479,7 @@ fn draws() {
     wrong_statement("rectangle 0 0 8 8 x", "the indices: \"x\" is no whole number from 0 to 4294967295");
     wrong_statement("masks rectangle 0 0 8", "the sides: a number is missing");
     wrong_statement("masks triangles 0 1 -2", "the indices: \"-2\" is no whole number from 0 to 4294967295");
+    wrong_statement("samples rectangle 0 0 8", "the sides: a number is missing");
 }
 
 #[test]
@@ -430,14 +589,14 @@ fn help_and_usage() {
     for argument in ["--help", "-h"] {
         let output = program().arg(argument).output().unwrap();
         assert_eq!(output.status.code(), Some(0));
-        assert!(text(&output.stdout).starts_with("writeback FILE PICTURE\n"));
+        assert!(text(&output.stdout).starts_with("writeback FILE PICTURE [SAMPLES]\n"));
         assert!(output.stderr.is_empty());
     }
     let folder = Folder::new();
-    for arguments in [&[][..], &["in.txt"], &["a", "b", "c"], &["--help", "out.png"], &["in.txt", "--quiet"]] {
+    for arguments in [&[][..], &["in.txt"], &["a", "b", "c", "d"], &["--help", "out.png"], &["in.txt", "--quiet"]] {
         let output = program().current_dir(&folder.0).args(arguments).output().unwrap();
         assert_eq!(output.status.code(), Some(2), "{arguments:?}");
-        assert_eq!(text(&output.stderr), "usage: writeback FILE PICTURE, or writeback --help\n");
+        assert_eq!(text(&output.stderr), "usage: writeback FILE PICTURE [SAMPLES], or writeback --help\n");
         assert!(output.stdout.is_empty() && folder.names().is_empty());
     }
 }

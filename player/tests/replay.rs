@@ -1,14 +1,14 @@
 //! The recorded lists of draws, emitted pixels and word reads (crates/replay_lists; oracle/README.md has their format), asked of
-//! this crate. They need no Rust original. The comparison with the original itself is oracle/tests/player.rs.
+//! this crate, by both engines. They need no Rust original. The comparison with the original itself is oracle/tests/player.rs.
 
 use std::str::SplitWhitespace;
 use writeback::{
-    AlphaCompare, BlendClass, CombinerUniform, Draw, EmittedPixel, EmittedRun, Encoding, Frame, Geometry, Refusal,
-    RenderMode, Scissor, Vertices, Writer, ZMode,
+    AlphaCompare, BlendClass, CombinerUniform, Draw, EmittedPixel, EmittedRun, Encoding, Engine, Frame, Geometry,
+    Refusal, RenderMode, Scissor, Vertices, Writer, ZMode,
 };
 
-/// A line's words in turn.
-struct Line<'a>(SplitWhitespace<'a>);
+/// A line's words in turn, and the engine that its draw is asked of.
+struct Line<'a>(SplitWhitespace<'a>, Engine);
 
 impl Line<'_> {
     fn word(&mut self) -> u32 {
@@ -138,7 +138,8 @@ impl Line<'_> {
         let geometry = self.geometry();
         let vertices = Vertices::from_parts(self.list(Line::float), self.bytes());
         let indices = self.list(Line::word);
-        call(self, &Draw { mode, uniform, cull, scissor, geometry, vertices: &vertices, indices: &indices })
+        let engine = self.1;
+        call(self, &Draw { mode, uniform, cull, scissor, geometry, vertices: &vertices, indices: &indices, engine })
     }
 
     /// What the call answers, and what stands behind the equals sign.
@@ -199,14 +200,13 @@ fn answered(answer: Result<u64, Refusal>) -> (u32, u64) {
     answer.map_or_else(|refusal| (refusal.number(), 0), |value| (0, value))
 }
 
-#[test]
-fn recorded_lists() {
+fn recorded_lists(engine: Engine) {
     let recorded = concat!(env!("CARGO_MANIFEST_DIR"), "/../crates/replay_lists/stdin");
     let recorded = std::fs::read_to_string(recorded).unwrap();
     let mut frame = Frame::new(1, 1).unwrap();
     let mut counts = [0; 21];
     for (number, line) in recorded.lines().enumerate() {
-        let mut words = Line(line.split_whitespace());
+        let mut words = Line(line.split_whitespace(), engine);
         let answers = match words.0.next().unwrap() {
             "frame" => {
                 let (width, height) = (words.word(), words.word());
@@ -227,4 +227,14 @@ fn recorded_lists() {
     }
     assert_eq!(counts.iter().sum::<i32>(), 457);
     assert!((0..=10).chain([20]).all(|number| counts[number] > 0), "{counts:?}");
+}
+
+#[test]
+fn recorded_lists_by_the_fast_engine() {
+    recorded_lists(Engine::Fast);
+}
+
+#[test]
+fn recorded_lists_by_the_slow_engine() {
+    recorded_lists(Engine::Slow);
 }

@@ -1,11 +1,12 @@
-//! Carries out a file: a line on standard output for each call, with the pixels of a draw's masks behind it, and on standard
-//! error a log line for each refusal.
+//! Carries out a file: a line on standard output for each call, with the pixels of a draw's masks or its samples behind it, and
+//! on standard error a log line for each refusal.
 
 use crate::progress::Progress;
+use crate::samples::Walk;
 use crate::script::{Area, Bytes, Script, Step};
 use std::fmt::Write as _;
 use std::io::{self, Write};
-use writeback::{Draw, Frame, Geometry, Refusal};
+use writeback::{Draw, Engine, Frame, Geometry, Refusal};
 
 /// A file's name, as messages and the log have it, and its bytes.
 pub struct Source {
@@ -70,6 +71,8 @@ pub struct Carried<'a> {
     pub frame: Frame,
     pub calls: u64,
     pub refusals: u64,
+    /// The last shape that a statement went through sample by sample.
+    pub walk: Option<Walk>,
 }
 
 fn write(frame: &mut Frame, area: Area, bytes: Bytes) {
@@ -164,7 +167,7 @@ impl Masks {
 impl<'a> Carried<'a> {
     /// Carries out a file that has the format, on a frame of its size of which nothing is known.
     pub fn out(source: &'a Source, frame: Frame, out: Out<'a>) -> Result<Carried<'a>, String> {
-        let mut carried = Carried { source, out, frame, calls: 0, refusals: 0 };
+        let mut carried = Carried { source, out, frame, calls: 0, refusals: 0, walk: None };
         let mut script = Script::default();
         for line in source.lines() {
             if let Some(step) = source.step(&mut script, &line)? {
@@ -187,6 +190,7 @@ impl<'a> Carried<'a> {
                 self.answer(line, name, answer.map(|pixels| counted(pixels, "pixel")))
             }
             Step::Masks(name, draw) => self.masks(line, name, &draw),
+            Step::Samples(name, draw, area) => self.samples(line, name, &draw, area),
             Step::Word { pixel, writer } => {
                 let answer = self.frame.read_word(pixel, &writer);
                 self.answer(line, &format!("word {pixel}"), answer.map(|[a, b]| format!("{a:02x}{b:02x}")))
@@ -245,6 +249,22 @@ impl<'a> Carried<'a> {
                 .map_err(|error| format!("standard output: {error}"))?;
         }
         written.end(self.out.lines).map_err(|error| format!("standard output: {error}"))
+    }
+
+    /// How many pixels the slow engine would emit, and behind it how it goes through each shape.
+    fn samples(&mut self, line: usize, name: &str, draw: &Draw, area: Area) -> Result<(), String> {
+        let draw = &Draw { engine: Engine::Slow, ..*draw };
+        let run = self.frame.emitted_pixels_from(draw, 0, &mut [], &mut []);
+        self.answer(line, &format!("samples {name}"), run.map(|run| counted(run.emitted, "pixel")))?;
+        if run.is_err() {
+            return Ok(());
+        }
+        let walks = Walk::all(&self.frame, draw, area).map_err(|wrong| self.source.wrong(line, wrong))?;
+        for walk in walks {
+            write!(self.out.lines, "{walk}").map_err(|error| format!("standard output: {error}"))?;
+            self.walk = Some(walk);
+        }
+        Ok(())
     }
 
     /// A run's words, with dashes for those that are turned away.

@@ -3,7 +3,7 @@
 use crate::words::{quoted, Words};
 use writeback::{
     AlphaCompare, AlphaIn, BlendAlpha, BlendClass, BlendFactor, BlendSource, Blender, ColorIn, CombinerUniform,
-    CycleSel, Encoding, RenderMode, Writer, ZMode,
+    CycleSel, Encoding, Engine, RenderMode, Writer, ZMode,
 };
 
 const BLEND_CLASSES: [(&str, BlendClass); 4] = [
@@ -76,6 +76,8 @@ const ALPHA_INPUTS: [(&str, AlphaIn); 10] = [
     ("lod_fraction", AlphaIn::LodFraction),
     ("prim_lod_frac", AlphaIn::PrimLodFrac),
 ];
+
+pub const ENGINES: [(&str, Engine); 2] = [("fast", Engine::Fast), ("slow", Engine::Slow)];
 
 const ENCODINGS: [(&str, Encoding); 2] = [("native", Encoding::Native), ("big_endian", Encoding::BigEndian)];
 

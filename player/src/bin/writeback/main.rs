@@ -5,7 +5,9 @@ mod fields;
 mod picture;
 mod png;
 mod progress;
+mod samples;
 mod script;
+mod sketch;
 mod words;
 
 use carry::{Carried, Out, Source};
@@ -13,30 +15,38 @@ use progress::Progress;
 use std::ffi::{OsStr, OsString};
 use std::fs::{self, File, OpenOptions};
 use std::io::{self, BufWriter, IsTerminal, Read, Write};
-use std::path::Path;
+use std::path::{Path, PathBuf};
 use std::process::ExitCode;
 use writeback::Frame;
 
 const HELP: &str = "\
-writeback FILE PICTURE
+writeback FILE PICTURE [SAMPLES]
 
 Carries out the draws, masks and word reads of FILE and writes the frame that they leave as a PNG to PICTURE.
 
 FILE is text: docs/FORMAT.md describes it, player/samples/album.txt is one. Standard output has a line for each call, behind
-that of a draw's masks the pixels, and standard error a log line for each refusal: FILE:LINE, the number and the reason.
+that of a draw's masks or samples the pixels, and standard error a log line for each refusal: FILE:LINE, the number and the
+reason.
 
 In the picture a pixel is a block of 4 by 4. A block of one colour is a pixel whose colour is known; a block of two, a
 diagonal line in magenta and black, is one whose colour is not known.
 
-Where FILE cannot be read or departs from the format, or PICTURE cannot be written, a message says so (FILE:LINE: what is
-wrong), PICTURE is left as it was, and the exit status is 2. Calls that are turned away are no error: the status is 0.
+SAMPLES is a second PNG: the samples of the last triangle or rectangle that FILE's statements `samples` go through, as rings
+that are filled where a sample is hit. docs/RASTERISER.md has one.
+
+Where FILE cannot be read or departs from the format, or a picture cannot be written, a message says so (FILE:LINE: what is
+wrong), the picture is left as it was, and the exit status is 2. Calls that are turned away are no error: the status is 0.
 ";
 
-const USAGE: &str = "usage: writeback FILE PICTURE, or writeback --help";
+const USAGE: &str = "usage: writeback FILE PICTURE [SAMPLES], or writeback --help";
 
 const COMMENT: &str =
     "A pixel is a block of 4 by 4. A block of two colours, a diagonal line in magenta and black, is a pixel whose \
                        colour is not known.";
+
+const SAMPLES_COMMENT: &str =
+    "A square is a pixel. A ring is a sample, filled where it is hit. Red are the triangle's sides, and blue is what lies \
+     between its edges on each quarter line.";
 
 /// The longest file, in bytes.
 const LONGEST: u64 = 64 << 20;
@@ -67,15 +77,26 @@ fn write_whole(picture: &Path, bytes: &[u8]) -> io::Result<()> {
     written
 }
 
-/// Whether both are there and are one file.
-fn same(file: &Path, picture: &Path) -> bool {
-    matches!((fs::canonicalize(file), fs::canonicalize(picture)), (Ok(file), Ok(picture)) if file == picture)
+/// A file's place by its folder, so that one which is not there yet has a place too.
+fn place(file: &Path) -> Option<PathBuf> {
+    let folder = file.parent().filter(|folder| !folder.as_os_str().is_empty()).unwrap_or(Path::new("."));
+    fs::canonicalize(file).ok().or_else(|| Some(fs::canonicalize(folder).ok()?.join(file.file_name()?)))
 }
 
-fn carry_out(file: &Path, picture: &Path) -> Result<(), String> {
+/// Whether both names are those of one file.
+fn same(file: &Path, picture: &Path) -> bool {
+    matches!((place(file), place(picture)), (Some(file), Some(picture)) if file == picture)
+}
+
+fn carry_out(file: &Path, picture: &Path, samples: Option<&Path>) -> Result<(), String> {
     let source = read(file)?;
-    if same(file, picture) {
-        return Err(format!("{}: the picture would replace the file", picture.display()));
+    for picture in [Some(picture), samples].into_iter().flatten() {
+        if same(file, picture) {
+            return Err(format!("{}: the picture would replace the file", picture.display()));
+        }
+    }
+    if samples.is_some_and(|samples| same(samples, picture)) {
+        return Err(format!("{}: one picture would replace the other", picture.display()));
     }
     let terminal = io::stderr().is_terminal();
     let (mut progress_out, mut log) = (io::stderr(), io::stderr());
@@ -90,14 +111,20 @@ fn carry_out(file: &Path, picture: &Path) -> Result<(), String> {
     let progress = Progress::new(&mut progress_out, terminal && !io::stdout().is_terminal());
     let carried = Carried::out(&source, frame, Out { lines: &mut lines, log: &mut log, progress })?;
 
-    let (frame, calls, refusals) = (carried.frame, carried.calls, carried.refusals);
+    let (frame, calls, refusals, walk) = (carried.frame, carried.calls, carried.refusals, carried.walk);
     writeln!(lines, "calls {calls}, log lines {refusals}")
         .and_then(|()| lines.flush())
         .map_err(|error| format!("standard output: {error}"))?;
 
-    let (width, height, rgb) = picture::picture(&frame);
-    write_whole(picture, &png::png(width, height, &rgb, COMMENT))
-        .map_err(|error| format!("{}: {error}", picture.display()))
+    let mut pictures = vec![(picture, picture::picture(&frame), COMMENT)];
+    if let Some(samples) = samples {
+        let walk = walk.ok_or_else(|| format!("{}: there are no samples for a picture", source.name))?;
+        pictures.push((samples, sketch::sketch(&walk), SAMPLES_COMMENT));
+    }
+    pictures.iter().try_for_each(|(path, (width, height, rgb), comment)| {
+        write_whole(path, &png::png(*width, *height, rgb, comment))
+            .map_err(|error| format!("{}: {error}", path.display()))
+    })
 }
 
 fn main() -> ExitCode {
@@ -112,8 +139,8 @@ fn main() -> ExitCode {
             Ok(()) => ExitCode::SUCCESS,
             Err(error) => failed(&format!("standard output: {error}")),
         },
-        [file, picture] if !is_option(file) && !is_option(picture) => {
-            match carry_out(Path::new(file), Path::new(picture)) {
+        [file, picture, samples @ ..] if samples.len() < 2 && !arguments.iter().any(|word| is_option(word)) => {
+            match carry_out(Path::new(file), Path::new(picture), samples.first().map(Path::new)) {
                 Ok(()) => ExitCode::SUCCESS,
                 Err(message) => failed(&message),
             }

@@ -3,7 +3,7 @@
 use crate::fields;
 use crate::words::{self, quoted, Words};
 use std::ops::RangeInclusive;
-use writeback::{CombinerUniform, Draw, Geometry, RenderMode, Scissor, Vertex, Vertices, Writer};
+use writeback::{CombinerUniform, Draw, Engine, Geometry, RenderMode, Scissor, Vertex, Vertices, Writer};
 
 /// The frame's sizes; others are number 1.
 const SIDES: RangeInclusive<u64> = 1..=1024;
@@ -11,7 +11,10 @@ const SIDES: RangeInclusive<u64> = 1..=1024;
 /// The most words that one statement reads: as many as the largest frame has pixels.
 const LONGEST_RUN: u64 = 1024 * 1024;
 
-/// The statements that draw, and that may stand behind `masks`.
+/// The most pixels that one statement goes through sample by sample.
+const LONGEST_WALK: u64 = 1024;
+
+/// The statements that draw, and that may stand behind `masks` and `samples`.
 const DRAWS: [(&str, &str); 3] = [("triangles", "triangles"), ("rectangle", "rectangle"), ("nothing", "nothing")];
 
 /// Pixels of the frame, all inside it.
@@ -40,6 +43,8 @@ pub enum Step<'a> {
     Draw(&'static str, Draw<'a>),
     /// The pixels that a draw would emit.
     Masks(&'static str, Draw<'a>),
+    /// A draw as the slow engine goes through it, and the pixels that it visits.
+    Samples(&'static str, Draw<'a>, Area),
     Word {
         pixel: usize,
         writer: Writer,
@@ -60,6 +65,7 @@ pub struct Script {
     cull: bool,
     scissor: Scissor,
     vertices: Vertices,
+    engine: Engine,
     writer: Writer,
     /// The indices of the last draw, kept for their memory.
     indices: Vec<u32>,
@@ -80,6 +86,17 @@ fn area(words: &mut Words, (width, height): (u32, u32)) -> Result<Area, String> 
     }
     let [left, top, width, height] = [left, top, across, down].map(|number| number as usize);
     Ok(Area { left, top, width, height })
+}
+
+/// The pixels of the frame inside a scissor.
+fn inside(scissor: Scissor, (width, height): (u32, u32)) -> Area {
+    let part = |first: u32, count: u32, size: u32| {
+        let start = first.min(size);
+        (start as usize, (first.saturating_add(count).min(size) - start) as usize)
+    };
+    let (left, across) = part(scissor.left, scissor.width, width);
+    let (top, down) = part(scissor.top, scissor.height, height);
+    Area { left, top, width: across, height: down }
 }
 
 /// A pixel by its number, or as `X,Y`.
@@ -132,6 +149,7 @@ impl Script {
                 let [left, top, width, height] = words.u32s("the scissor")?;
                 self.scissor = Scissor { left, top, width, height };
             }
+            "engine" => self.engine = words.one_of("engine", &fields::ENGINES)?,
             "vertex" => {
                 let [x, y, r, g, b, a] = words.floats("the vertex")?;
                 self.vertices.push(Some(Vertex { position: [x, y], color: [r, g, b, a] }));
@@ -164,6 +182,22 @@ impl Script {
             "masks" => {
                 let name = words.one_of("masks", &DRAWS)?;
                 Ok(Step::Masks(name, self.draw(name, words)?))
+            }
+            "samples" => {
+                let size = self.size()?;
+                let name = words.one_of("samples", &DRAWS)?;
+                let draw = self.draw(name, words)?;
+                let area = inside(draw.scissor, size);
+                let shapes = match draw.geometry {
+                    Geometry::Nothing => 0,
+                    Geometry::Triangles => draw.indices.len() / 3,
+                    Geometry::Rectangle { .. } => 1,
+                };
+                let visited = (shapes * area.width * area.height) as u64;
+                if visited > LONGEST_WALK {
+                    return Err(format!("samples: the draw visits {visited} pixels, and the most is {LONGEST_WALK}"));
+                }
+                Ok(Step::Samples(name, draw, area))
             }
             "word" => {
                 let pixel = pixel(words, self.size()?)?;
@@ -211,8 +245,8 @@ impl Script {
             _ => Geometry::Nothing,
         };
         self.indices = words.all("the indices", index)?;
-        let Script { mode, uniform, cull, scissor, vertices, indices, .. } = self;
-        let (mode, uniform, cull, scissor) = (*mode, *uniform, *cull, *scissor);
-        Ok(Draw { mode, uniform, cull, scissor, geometry, vertices, indices })
+        let Script { mode, uniform, cull, scissor, vertices, indices, engine, .. } = self;
+        let (mode, uniform, cull, scissor, engine) = (*mode, *uniform, *cull, *scissor, *engine);
+        Ok(Draw { mode, uniform, cull, scissor, geometry, vertices, indices, engine })
     }
 }
