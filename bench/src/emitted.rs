@@ -3,7 +3,7 @@
 
 use crate::plain::Prepared;
 use crate::scenes::Scene;
-use oracle::library;
+use oracle::library::{self, Engine};
 use std::time::Instant;
 
 /// The scenes whose draws are listed.
@@ -27,7 +27,7 @@ pub struct List {
 }
 
 /// The least times of two sides that take turns, in seconds. What a side does before the time that it answers is not timed.
-fn least(runs: usize, mut sides: [&mut dyn FnMut() -> f64; 2]) -> [f64; 2] {
+pub fn least(runs: usize, mut sides: [&mut dyn FnMut() -> f64; 2]) -> [f64; 2] {
     let mut least = [f64::INFINITY; 2];
     for _ in 0..runs {
         for (least, side) in least.iter_mut().zip(&mut sides) {
@@ -37,7 +37,7 @@ fn least(runs: usize, mut sides: [&mut dyn FnMut() -> f64; 2]) -> [f64; 2] {
     least
 }
 
-fn seconds(run: impl FnOnce()) -> f64 {
+pub fn seconds(run: impl FnOnce()) -> f64 {
     let start = Instant::now();
     run();
     start.elapsed().as_secs_f64()
@@ -48,7 +48,7 @@ pub fn every_pixel(scene: &Scene, prepared: &Prepared, runs: usize) -> [f64; 2] 
     let none = || vec![List::default(); scene.draws.len()];
     let (mut rust, mut library) = (none(), none());
     for (list, draw) in library.iter_mut().zip(&scene.draws) {
-        let count = library::emitted_pixels(&scene.frame, draw, 0, &mut [], &mut []).emitted as usize;
+        let count = library::emitted_pixels(Engine::Fast, &scene.frame, draw, 0, &mut [], &mut []).emitted as usize;
         *list = List { pixels: vec![0; count], samples: vec![0; count] };
     }
     let mut original = || {
@@ -61,7 +61,7 @@ pub fn every_pixel(scene: &Scene, prepared: &Prepared, runs: usize) -> [f64; 2] 
     let mut ours = || {
         seconds(|| {
             for (List { pixels, samples }, draw) in library.iter_mut().zip(&scene.draws) {
-                let run = library::emitted_pixels(&scene.frame, draw, 0, pixels, samples);
+                let run = library::emitted_pixels(Engine::Fast, &scene.frame, draw, 0, pixels, samples);
                 assert_eq!((run.number, run.listed), (0, pixels.len() as u64));
             }
         })
@@ -83,11 +83,12 @@ pub fn every_pixel(scene: &Scene, prepared: &Prepared, runs: usize) -> [f64; 2] 
 pub fn last_pixel(scene: &Scene, runs: usize) -> [f64; 2] {
     let draw = &scene.draws[0];
     let mut frame = scene.frame.clone();
-    let count = library::draw(&mut frame, draw).pixels;
+    let count = library::draw(Engine::Fast, &mut frame, draw).pixels;
     let mut drawn = || {
         frame.clone_from(&scene.frame);
-        seconds(|| assert_eq!(library::draw(&mut frame, draw).pixels, count))
+        seconds(|| assert_eq!(library::draw(Engine::Fast, &mut frame, draw).pixels, count))
     };
-    let mut asked = || seconds(|| assert_ne!(library::emitted_pixel(&scene.frame, draw, count - 1).mask, 0));
+    let mut asked =
+        || seconds(|| assert_ne!(library::emitted_pixel(Engine::Fast, &scene.frame, draw, count - 1).mask, 0));
     least(runs, [&mut drawn, &mut asked]).map(|seconds| count as f64 / seconds / 1e6)
 }

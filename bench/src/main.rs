@@ -1,10 +1,12 @@
 //! The library and the Rust original side by side: the same frames, draws, emitted pixels and word reads in one process, timed in
-//! turns; and beside a draw of the library the last of its pixels by its place.
+//! turns; beside a draw of the library the last of its pixels by its place; and beside its fast engine, which is timed in all of
+//! these, the slow one.
 //!
 //!     bench [PART]   every scene, or those with PART in their name
 #![forbid(unsafe_code)]
 
 mod emitted;
+mod engines;
 mod plain;
 mod scenes;
 
@@ -15,6 +17,9 @@ use std::time::Instant;
 
 /// How often a scene is run on each side; the best run counts.
 const RUNS: usize = 15;
+
+/// Fewer where the slow engine is run.
+const SLOW_RUNS: usize = 5;
 
 /// One side's frame and words after a run, and its least time.
 struct Side {
@@ -63,9 +68,9 @@ fn report(scene: &Scene) {
     rates(scene.name, [rust.rate(), library.rate()]);
 }
 
-fn row(name: &str, cells: &[impl AsRef<str>; 3]) {
-    let [rust, library, ratio] = cells.each_ref().map(AsRef::as_ref);
-    println!("{name:<56} {rust:>9} {library:>9} {ratio:>9}");
+fn row(name: &str, cells: &[impl AsRef<str>]) {
+    let cells: String = cells.iter().map(|cell| format!(" {:>9}", cell.as_ref())).collect();
+    println!("{name:<56}{cells}");
 }
 
 /// The two rates, and the second by the first.
@@ -76,14 +81,16 @@ fn rates(name: &str, [first, second]: [f64; 2]) {
 fn main() -> ExitCode {
     let part = std::env::args().nth(1).unwrap_or_default();
     let all = scenes::all();
-    let with = |before: &'static str, listed: bool| {
-        let named = all.iter().filter(move |scene| !listed || emitted::is_listed(scene));
-        let named = named.map(move |scene| (format!("{before}{}", scene.name), scene));
+    // The scenes of a table, with what stands before their names there.
+    let with = |before: fn(&Scene) -> Option<String>| {
+        let named = all.iter().filter_map(|scene| before(scene).map(|before| (before + scene.name, scene)));
         named.filter(|(name, _)| name.contains(&part)).collect::<Vec<_>>()
     };
-    let drawn = with("", false);
-    let (every, last) = (with("every pixel listed: ", true), with("the last pixel: ", true));
-    if drawn.is_empty() && every.is_empty() && last.is_empty() {
+    let drawn = with(|_| Some(String::new()));
+    let every = with(|scene| emitted::is_listed(scene).then(|| "every pixel listed: ".into()));
+    let last = with(|scene| emitted::is_listed(scene).then(|| "the last pixel: ".into()));
+    let both = with(|scene| engines::first(scene).map(|count| format!("both engines, first {count}: ")));
+    if drawn.is_empty() && every.is_empty() && last.is_empty() && both.is_empty() {
         eprintln!("bench: no scene has \"{part}\" in its name");
         return ExitCode::from(2);
     }
@@ -96,5 +103,9 @@ fn main() -> ExitCode {
         row("million pixels a second", &["drawn", "by place", "ratio"]);
     }
     last.iter().for_each(|(name, scene)| rates(name, emitted::last_pixel(scene, RUNS)));
+    if !both.is_empty() {
+        row("million pixels a second; slow: nanoseconds a sample", &["fast", "slow", "fast/slow", "ns/sample"]);
+    }
+    both.iter().for_each(|(name, scene)| row(name, &engines::both(scene, SLOW_RUNS).map(shown)));
     ExitCode::SUCCESS
 }

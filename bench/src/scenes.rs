@@ -1,7 +1,7 @@
 //! What is timed: frames, draws and word reads, the same for both sides.
 
 use oracle::draws::{Draw, Frame, Read, Shape};
-use oracle::library::{self, Geometry, Mode, Rgba, Scissor, Uniform};
+use oracle::library::{self, Engine, Geometry, Mode, Rgba, Scissor, Uniform};
 
 pub struct Scene {
     pub name: &'static str,
@@ -266,7 +266,7 @@ pub fn all() -> Vec<Scene> {
 pub fn run(scene: &Scene, frame: &mut Frame, words: &mut Words) -> u64 {
     let mut pixels = 0;
     for draw in &scene.draws {
-        let answer = library::draw(frame, draw);
+        let answer = library::draw(Engine::Fast, frame, draw);
         assert_eq!(answer.number, 0);
         pixels += answer.pixels;
     }

@@ -1,14 +1,15 @@
-//! The pixels of a draw by themselves: `emitted_pixel` and `emitted_pixels` of the library against the walk with masks, on frames
-//! and draws that are mostly accepted, with every reason to turn one away. All eight bits of every mask, in order; no call
-//! may write the frame, and one that is turned away nothing at all.
+//! The pixels of a draw by themselves: `emitted_pixel` and `emitted_pixels` of the library, under each choice of its engine, against
+//! the walk with masks, on frames and draws that are mostly accepted, with every reason to turn one away. All eight bits of every
+//! mask, in order; no call may write the frame, and one that is turned away nothing at all.
 
 use crate::compare::{added, Line, Part};
-use crate::compare_frame::{numbers, Numbers};
+use crate::compare_frame::{numbers, Numbers, ANSWERED};
 use crate::draws::{Draw, EmittedPixel, EmittedPixels, Frame, Step};
+use crate::engines::{all_handed, handed_counts, Calls, Handed, Library};
 use crate::frame::EmittedList;
 use crate::inputs::Inputs;
 use crate::lists::{frame_and_draw, Class};
-use crate::sides::{place, Answered, Library, Ran, Side};
+use crate::sides::{place, Answered, Ran, Side};
 use std::iter::Sum;
 
 /// Every pixel is asked for by itself of a draw with no more than so many.
@@ -30,6 +31,9 @@ pub struct Counts {
     /// Accepted runs that end behind the last pixel, and those whose places reach past the largest number.
     ending: u64,
     wrapping: u64,
+    /// By the choice of the engine.
+    calls: [Calls; 3],
+    handed: Handed,
 }
 
 impl Default for Counts {
@@ -43,31 +47,39 @@ impl Default for Counts {
             behind: 0,
             ending: 0,
             wrapping: 0,
+            calls: Default::default(),
+            handed: Handed::default(),
         }
     }
 }
 
-/// A frame and a draw, and the pixels that it emits.
-struct Case {
+/// A frame and a draw, the pixels that it emits, and what is asked for them.
+struct Case<'a> {
+    sides: &'a [Library; 3],
     frame: Frame,
     draw: Draw,
     list: EmittedList,
 }
 
-impl Case {
+impl Case<'_> {
     /// The call on the library, on a frame that it must leave as it was, held to the list's answer.
-    fn ask(&self, frame: &mut Frame, step: &Step, expected: Answered) -> Result<Answered, String> {
-        let answers = [&Library.call(frame, step), &expected];
-        let ran = Ran { step, before: [&self.frame; 2], after: [frame, &self.frame], answers };
-        if answers[0] != answers[1] || !ran.untouched() {
-            return Err(ran.difference("emitted pixels", ["library", "Rust"], &place(frame, &self.frame)));
+    fn ask(&self, frame: &mut Frame, step: &Step, expected: &Answered, counts: &mut Counts) -> Result<(), String> {
+        for (library, calls) in self.sides.iter().zip(&mut counts.calls) {
+            let answers = [&library.call(frame, step), expected];
+            let ran = Ran { step, before: [&self.frame; 2], after: [frame, &self.frame], answers };
+            if answers[0] != answers[1] || !ran.untouched() {
+                let place = place(frame, &self.frame);
+                return Err(library.said(ran.difference("emitted pixels", ["library", "Rust"], &place)));
+            }
+            calls.count(step, answers[0]);
         }
-        Ok(expected)
+        Ok(())
     }
 
     fn single(&self, frame: &mut Frame, k: u64, counts: &mut Counts) -> Result<(), String> {
         let step = Step::EmittedPixel(Box::new(EmittedPixel { draw: self.draw.clone(), k }));
-        let answer = self.ask(frame, &step, self.list.pixel(k).into())?;
+        let answer: Answered = self.list.pixel(k).into();
+        self.ask(frame, &step, &answer, counts)?;
         counts.singles[answer.number as usize] += 1;
         counts.behind += u64::from(answer.number == 0 && answer.values[1] == 0);
         Ok(())
@@ -79,8 +91,8 @@ impl Case {
         let pixels = (0..slots).map(|_| inputs.word()).collect();
         let masks = (0..masks).map(|_| inputs.byte()).collect();
         let run = Box::new(EmittedPixels { draw: self.draw.clone(), first, pixels, masks });
-        let expected = Answered::run(&run, |pixels, masks| self.list.run(first, pixels, masks));
-        let answer = self.ask(frame, &Step::EmittedPixels(run), expected)?;
+        let answer = Answered::run(&run, |pixels, masks| self.list.run(first, pixels, masks));
+        self.ask(frame, &Step::EmittedPixels(run), &answer, counts)?;
         counts.runs[answer.number as usize] += 1;
         if answer.number == 0 {
             counts.ending += u64::from(answer.values[0] < slots as u64);
@@ -125,11 +137,11 @@ fn any_run(inputs: &mut Inputs, count: usize) -> Run {
     Run { first, slots, masks }
 }
 
-fn check(inputs: &mut Inputs, class: Class, counts: &mut Counts) -> Result<(), String> {
+fn check(inputs: &mut Inputs, class: Class, sides: &[Library; 3], counts: &mut Counts) -> Result<(), String> {
     let (frame, draw) = frame_and_draw(inputs, class);
     let list = EmittedList::of(&frame, &draw);
     let mut lent = frame.clone();
-    let case = Case { frame, draw, list };
+    let case = Case { sides, frame, draw, list };
     let count = case.list.pixels().len();
     // The whole list, with a slot or two behind it.
     let slots = count + inputs.below(3) as usize;
@@ -155,10 +167,12 @@ pub fn emitted(part: &Part) -> Result<Counts, String> {
     let goal = part.tries(330_000).end;
     let mut counts = Counts::default();
     let mut inputs = part.inputs();
+    let sides = Library::each(&inputs.aside());
     while counts.draws[0] < goal {
         let class = if counts.draws[0] % 50_000 == 49_999 { Class::Whole } else { Class::Any };
-        check(&mut inputs, class, &mut counts)?;
+        check(&mut inputs, class, &sides, &mut counts)?;
     }
+    counts.handed = all_handed(&sides);
     Ok(counts)
 }
 
@@ -173,6 +187,8 @@ impl Sum for Counts {
             behind: a.behind + b.behind,
             ending: a.ending + b.ending,
             wrapping: a.wrapping + b.wrapping,
+            calls: [0, 1, 2].map(|choice| a.calls[choice] + b.calls[choice]),
+            handed: added(a.handed, b.handed),
         })
     }
 }
@@ -187,6 +203,22 @@ impl Counts {
         singles.push(named("behind the last pixel", self.behind));
         let mut runs = numbers(&self.runs, &[0, 1, 2, 3, 4, 5, 6, 7, 20]);
         runs.extend([named("end behind the last pixel", self.ending), named("past the largest place", self.wrapping)]);
-        vec![("emitted, draws", draws), ("emitted_pixel", singles), ("emitted_pixels", runs)]
+        let calls = |choice: usize| {
+            let Calls { emitted_pixel, emitted_pixels, listed, .. } = self.calls[choice];
+            vec![
+                named("draws", self.draws.iter().sum()),
+                named("emitted_pixel", emitted_pixel),
+                named("emitted_pixels", emitted_pixels),
+                named(ANSWERED, listed),
+            ]
+        };
+        vec![
+            ("emitted, draws", draws),
+            ("emitted_pixel", singles),
+            ("emitted_pixels", runs),
+            ("emitted, slow engine", calls(1)),
+            ("emitted, engines mixed", calls(2)),
+            ("engine numbers, in all of these", handed_counts(self.handed)),
+        ]
     }
 }

@@ -1,6 +1,7 @@
 //! A list on two frames of one side. Two runs: the frames differ in bytes that are not known, and nothing may show it. Known
 //! frame: the other frame knows everything, as the console does, and whatever the first hands out or marks as known must be
-//! true on it. The side is mostly the library; a side with an error shows what each of the two notices.
+//! true on it. The side is mostly the library, under each choice of its engine: where that is mixed, the two frames differ in the
+//! choices, too. A side with an error shows what each of the two notices.
 
 use crate::draws::{Frame, Read, Step};
 use crate::frame::frame_number;
@@ -54,8 +55,11 @@ impl Add for Held {
 }
 
 /// A frame that knows everything and goes through the same calls as one that knows less.
+#[derive(Clone)]
 pub struct KnownFrame {
     frame: Frame,
+    /// The run of words after the last call: over the whole frame, by a writer at random.
+    read: Read,
     held: Held,
 }
 
@@ -89,7 +93,11 @@ fn entries<'a>(words: &'a [u8], numbers: &'a [u8]) -> impl Iterator<Item = Word>
 impl KnownFrame {
     /// None beside a frame that numbers 1 to 3 refuse.
     pub fn beside(frame: &Frame, inputs: &mut Inputs) -> Option<Self> {
-        (frame_number(frame) == 0).then(|| KnownFrame { frame: completed(inputs, frame), held: Held::default() })
+        (frame_number(frame) == 0).then(|| KnownFrame {
+            frame: completed(inputs, frame),
+            read: Read { pixel: 0, ..read(inputs, (frame.width, frame.height)) },
+            held: Held::default(),
+        })
     }
 
     /// The first known byte of `less` that is another one here, or the first mark here that is not 3.
@@ -134,9 +142,9 @@ impl KnownFrame {
         Ok(())
     }
 
-    /// After the last call: every pixel in one run of words, by a writer at random.
-    pub fn finish(mut self, side: &impl Side, less: &Frame, inputs: &mut Inputs) -> Result<Held, String> {
-        let read = Read { pixel: 0, ..read(inputs, (less.width, less.height)) };
+    /// After the last call: every pixel in one run of words.
+    pub fn finish(mut self, side: &impl Side, less: &Frame) -> Result<Held, String> {
+        let read = self.read;
         let n = less.marks.len();
         // Other bytes beforehand: what a run leaves as it was differs.
         let (mut words, mut numbers) = ([vec![0x55; 2 * n], vec![0xaa; 2 * n]], [vec![0x55; n], vec![0xaa; n]]);
@@ -173,5 +181,5 @@ pub fn known_frame(side: &impl Side, list: &List, inputs: &mut Inputs) -> Result
         let answer = side.call(&mut frame, step);
         known.follow(side, &Call { step, before: &before, after: &frame, answer: &answer })?;
     }
-    known.finish(side, &frame, inputs)
+    known.finish(side, &frame)
 }

@@ -61,6 +61,7 @@ pub fn shifted(x: f32, by: i32) -> f32 {
 pub struct Temper(u64);
 
 /// Splitmix64.
+#[derive(Clone)]
 pub struct Inputs {
     state: u64,
 }

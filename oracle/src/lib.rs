@@ -15,6 +15,7 @@ pub mod compare_raster;
 pub mod compare_runs;
 pub mod compare_selectors;
 pub mod draws;
+pub mod engines;
 pub mod frame;
 pub mod given_up;
 pub mod inputs;

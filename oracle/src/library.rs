@@ -3,6 +3,7 @@
 
 use crate::draws::{Draw, Frame, Read, Shape};
 use crate::words::{Sheet, Words};
+use std::num::NonZeroU8;
 use writeback_sys::{wb_admitted, wb_draw, wb_emitted_pixel, wb_emitted_pixels, wb_pixel, wb_read_word, wb_read_words};
 pub use writeback_sys::{
     wb_answer as Answer, wb_color_answer as ColorAnswer, wb_combiner as Combiner, wb_combiner_answer as CombinerAnswer,
@@ -133,12 +134,32 @@ pub fn pixel(mode: Mode, combiner: Combiner, shape: &Shape, i: usize, y: u32, x:
     with_lists! { wb_pixel(mode, combiner, shape.cull, shape.geometry; shape; i, y, x) }
 }
 
-pub fn draw(frame: &mut Frame, draw: &Draw) -> DrawAnswer {
+/// What finds a draw's pixels.
+#[derive(Clone, Copy, Debug, PartialEq)]
+pub enum Engine {
+    Fast,
+    /// By one of its numbers, which are all but 0.
+    Slow(NonZeroU8),
+}
+
+impl Engine {
+    pub const SLOW: Engine = Engine::Slow(NonZeroU8::MIN);
+
+    /// As the interface takes it.
+    pub fn number(self) -> u8 {
+        match self {
+            Engine::Fast => 0,
+            Engine::Slow(number) => number.get(),
+        }
+    }
+}
+
+pub fn draw(engine: Engine, frame: &mut Frame, draw: &Draw) -> DrawAnswer {
     let Frame { width, height, colors, coverages, marks } = frame;
     let shape = &draw.shape;
     with_lists! {
         wb_draw(
-            *width, *height,
+            engine.number(), *width, *height,
             colors.as_mut_ptr(), colors.len(), coverages.as_mut_ptr(), coverages.len(), marks.as_mut_ptr(), marks.len(),
             draw.mode, draw.uniform, shape.cull, shape.scissor, shape.geometry;
             shape;
@@ -146,12 +167,12 @@ pub fn draw(frame: &mut Frame, draw: &Draw) -> DrawAnswer {
     }
 }
 
-pub fn emitted_pixel(frame: &Frame, draw: &Draw, k: u64) -> EmittedAnswer {
+pub fn emitted_pixel(engine: Engine, frame: &Frame, draw: &Draw, k: u64) -> EmittedAnswer {
     let Frame { width, height, colors, coverages, marks } = frame;
     let shape = &draw.shape;
     with_lists! {
         wb_emitted_pixel(
-            *width, *height,
+            engine.number(), *width, *height,
             colors.as_ptr(), colors.len(), coverages.as_ptr(), coverages.len(), marks.as_ptr(), marks.len(),
             draw.mode, draw.uniform, shape.cull, shape.scissor, shape.geometry;
             shape;
@@ -162,6 +183,7 @@ pub fn emitted_pixel(frame: &Frame, draw: &Draw, k: u64) -> EmittedAnswer {
 
 /// The run of emitted pixels from `first` on.
 pub fn emitted_pixels(
+    engine: Engine,
     frame: &Frame,
     draw: &Draw,
     first: u64,
@@ -172,7 +194,7 @@ pub fn emitted_pixels(
     let shape = &draw.shape;
     with_lists! {
         wb_emitted_pixels(
-            *width, *height,
+            engine.number(), *width, *height,
             colors.as_ptr(), colors.len(), coverages.as_ptr(), coverages.len(), marks.as_ptr(), marks.len(),
             draw.mode, draw.uniform, shape.cull, shape.scissor, shape.geometry;
             shape;

@@ -1,8 +1,8 @@
 //! What carries out a list's calls, what a call answers, and the text of one that came out differently on two frames.
 
-use crate::draws::{slots, EmittedPixel, EmittedPixels, Frame, Read, Step};
+use crate::draws::{slots, EmittedPixels, Frame, Read, Step};
 use crate::frame::{self, Emitted, EmittedList, Pen};
-use crate::library::{self, Answer, DrawAnswer, EmittedAnswer, EmittedRunAnswer, RunAnswer};
+use crate::library::{Answer, DrawAnswer, EmittedAnswer, EmittedRunAnswer, RunAnswer};
 
 /// What a call answers.
 #[derive(Clone, Debug, Default, PartialEq)]
@@ -50,34 +50,12 @@ impl Answered {
     }
 }
 
-/// The library, or the frame of frame.rs.
+/// The library (engines.rs), or the frame of frame.rs.
 pub trait Side {
     fn call(&self, frame: &mut Frame, step: &Step) -> Answered;
 
     /// The run of words from the read's pixel on.
     fn run(&self, frame: &Frame, read: &Read, words: &mut [u8], numbers: &mut [u8]) -> RunAnswer;
-}
-
-pub struct Library;
-
-impl Side for Library {
-    fn call(&self, frame: &mut Frame, step: &Step) -> Answered {
-        match step {
-            Step::Draw(draw) => library::draw(frame, draw).into(),
-            Step::Read(read) => library::read_word(frame, read).into(),
-            Step::EmittedPixel(one) => {
-                let EmittedPixel { draw, k } = &**one;
-                library::emitted_pixel(frame, draw, *k).into()
-            }
-            Step::EmittedPixels(run) => {
-                Answered::run(run, |pixels, masks| library::emitted_pixels(frame, &run.draw, run.first, pixels, masks))
-            }
-        }
-    }
-
-    fn run(&self, frame: &Frame, read: &Read, words: &mut [u8], numbers: &mut [u8]) -> RunAnswer {
-        library::read_words(frame, read, words, numbers)
-    }
 }
 
 /// A call on the frame of frame.rs, where every pixel that a draw puts on it is handed to `put`.

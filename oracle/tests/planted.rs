@@ -1,14 +1,18 @@
 //! Rules changed on purpose, and whether two runs and the known frame (compare_known.rs) notice it. Two runs ask that unknown
 //! bytes do not show; only the known frame asks that what is handed out is true. The changed rules are those of frame.rs; the
-//! library is asked nothing.
+//! library is asked nothing. Then engines that find other pixels than the original, which the two notice only where the choice of
+//! the engine is mixed.
 
+use oracle::compare_frame::{beside_original, on_original};
 use oracle::compare_known::{known_frame, two_runs};
-use oracle::draws::{Draw, Frame, Read, Step};
+use oracle::draws::{Draw, Frame, Read, Shape, Step};
 use oracle::frame::{self, Branches, Emitted, EmittedList, Pen, DOUBT, YES};
-use oracle::inputs::{Inputs, SEED};
+use oracle::inputs::{shifted, Inputs, SEED};
 use oracle::library::RunAnswer;
 use oracle::lists::{Class, List};
+use oracle::shapes::RECTANGLE;
 use oracle::sides::{on_frame, Answered, Side};
+use std::cell::RefCell;
 
 /// As many must pass before an error counts as not noticed.
 const LISTS: u64 = 20_000;
@@ -183,4 +187,87 @@ fn nothing_else_is_changed() {
         }
     });
     assert_eq!(same, None);
+}
+
+/// What an engine does wrong.
+#[derive(Clone, Copy, PartialEq, Debug)]
+enum EngineFault {
+    /// A rectangle holds the samples on its right edge, too.
+    RightEdge,
+    /// It stops after the scissor's first row.
+    FirstRow,
+    /// It takes the last triangle first.
+    Reversed,
+}
+
+const ENGINE_FAULTS: [EngineFault; 3] = [EngineFault::RightEdge, EngineFault::FirstRow, EngineFault::Reversed];
+
+impl EngineFault {
+    /// What the draw has to cover for the original to find the pixels that the faulty engine finds. It is turned away as before.
+    fn alter(self, shape: &mut Shape) {
+        let Shape { scissor, geometry, indices, .. } = shape;
+        match self {
+            EngineFault::RightEdge => {
+                if geometry.kind == RECTANGLE && geometry.right.is_finite() && geometry.right > 0.0 {
+                    geometry.right = shifted(geometry.right, 1);
+                }
+            }
+            EngineFault::FirstRow => {
+                if scissor.height <= 65_535 {
+                    scissor.height = scissor.height.min(1);
+                }
+            }
+            EngineFault::Reversed => *indices = indices.rchunks(3).flatten().copied().collect(),
+        }
+    }
+}
+
+/// The frame of frame.rs over two engines, of which one has the fault.
+struct Engines {
+    fault: Option<EngineFault>,
+    /// Where either engine may be taken for a call; without them it is the faulty one.
+    choices: Option<RefCell<Inputs>>,
+}
+
+impl Side for Engines {
+    fn call(&self, frame: &mut Frame, step: &Step) -> Answered {
+        let mut step = step.clone();
+        let shape = match &mut step {
+            Step::Draw(draw) => Some(&mut draw.shape),
+            Step::EmittedPixel(one) => Some(&mut one.draw.shape),
+            Step::EmittedPixels(run) => Some(&mut run.draw.shape),
+            Step::Read(_) => None,
+        };
+        let faulty = self.choices.as_ref().is_none_or(|choices| choices.borrow_mut().flag());
+        if let (Some(fault), Some(shape), true) = (self.fault, shape, faulty) {
+            fault.alter(shape);
+        }
+        on_original(frame, &step, &mut Branches::default())
+    }
+
+    fn run(&self, frame: &Frame, read: &Read, words: &mut [u8], numbers: &mut [u8]) -> RunAnswer {
+        frame::read_words(frame, read, words, numbers)
+    }
+}
+
+/// The first list in which an engine's fault is noticed: beside the original, in two runs and by the known frame.
+fn by_each(fault: Option<EngineFault>, mixed: bool) -> [Option<u64>; 3] {
+    let choices = mixed.then(|| Inputs::new(!SEED).into());
+    let engines = Engines { fault, choices };
+    [
+        noticed(|list, _| beside_original(&engines, list)),
+        noticed(|list, inputs| two_runs(&engines, list, inputs).map(drop)),
+        noticed(|list, inputs| known_frame(&engines, list, inputs).map(drop)),
+    ]
+}
+
+#[test]
+fn what_notices_an_engine() {
+    assert_eq!(by_each(None, true), [None; 3]);
+    for fault in ENGINE_FAULTS {
+        let [alone, mixed] = [false, true].map(|mixed| by_each(Some(fault), mixed).map(|list| list.is_some()));
+        // An engine that is always wrong in the same way shows beside the original alone.
+        assert_eq!(alone, [true, false, false], "{fault:?}");
+        assert_eq!(mixed, [true; 3], "{fault:?}");
+    }
 }

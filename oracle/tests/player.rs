@@ -1,5 +1,5 @@
 //! The player's crate (player/) beside the frame of frame.rs: lists at random, mostly accepted, with every reason to turn a
-//! call away. After each call the answer and every byte must be the same.
+//! call away, each with the fast engine and with the slow one. After each call the answer and every byte must be the same.
 
 use oracle::draws::{self, Read, Step};
 use oracle::frame::{self, Branches, EmittedList};
@@ -8,12 +8,14 @@ use oracle::library::{Mode, Rgba, Uniform};
 use oracle::lists::{Class, List};
 use oracle::sides::{on_frame, Answered};
 use writeback::{
-    AlphaCompare, BlendClass, CombinerUniform, Draw, EmittedPixel, Encoding, Frame, Geometry, Refusal, RenderMode,
-    Scissor, Vertices, Writer, ZMode,
+    AlphaCompare, BlendClass, CombinerUniform, Draw, EmittedPixel, Encoding, Engine, Frame, Geometry, Refusal,
+    RenderMode, Scissor, Vertices, Writer, ZMode,
 };
 
 const LISTS: u64 = 20_000;
 const SEED: u64 = 0x0064_0064;
+
+const ENGINES: [Engine; 2] = [Engine::Fast, Engine::Slow];
 
 const BLEND_CLASSES: [BlendClass; 4] =
     [BlendClass::Replace, BlendClass::BlendColor, BlendClass::AlphaOver, BlendClass::DualSrc];
@@ -89,7 +91,7 @@ fn vertices(draw: &draws::Draw) -> Vertices {
     Vertices::from_parts(draw.shape.vertices.clone(), draw.shape.present.clone())
 }
 
-fn player_draw<'a>(draw: &'a draws::Draw, vertices: &'a Vertices) -> Draw<'a> {
+fn player_draw<'a>(engine: Engine, draw: &'a draws::Draw, vertices: &'a Vertices) -> Draw<'a> {
     let shape = &draw.shape;
     let oracle::library::Scissor { left, top, width, height } = shape.scissor;
     Draw {
@@ -100,6 +102,7 @@ fn player_draw<'a>(draw: &'a draws::Draw, vertices: &'a Vertices) -> Draw<'a> {
         geometry: geometry(shape.geometry),
         vertices,
         indices: &shape.indices,
+        engine,
     }
 }
 
@@ -114,22 +117,22 @@ fn answered<const N: usize>(answer: Result<[u64; N], Refusal>) -> Answered {
     Answered { number, values: answer.unwrap_or([0; N]).to_vec(), slots: None }
 }
 
-fn on_player(frame: &mut Frame, step: &Step) -> Answered {
+fn on_player(engine: Engine, frame: &mut Frame, step: &Step) -> Answered {
     match step {
-        Step::Draw(draw) => answered(frame.draw(&player_draw(draw, &vertices(draw))).map(|pixels| [pixels])),
+        Step::Draw(draw) => answered(frame.draw(&player_draw(engine, draw, &vertices(draw))).map(|pixels| [pixels])),
         Step::Read(read) => {
             let word = frame.read_word(read.pixel, &writer(read));
             answered(word.map(|word| [u16::from_le_bytes(word).into()]))
         }
         Step::EmittedPixel(one) => {
-            let emitted = frame.emitted_pixel(&player_draw(&one.draw, &vertices(&one.draw)), one.k);
+            let emitted = frame.emitted_pixel(&player_draw(engine, &one.draw, &vertices(&one.draw)), one.k);
             let pixel = |EmittedPixel { pixel, mask }| [pixel as u64, mask.into()];
             answered(emitted.map(|emitted| emitted.map_or([0; 2], pixel)))
         }
         Step::EmittedPixels(run) => {
             let (mut pixels, mut masks) = (run.pixels.clone(), run.masks.clone());
             let vertices = vertices(&run.draw);
-            let draw = player_draw(&run.draw, &vertices);
+            let draw = player_draw(engine, &run.draw, &vertices);
             let ran = frame.emitted_pixels_from(&draw, run.first, &mut pixels, &mut masks);
             let answer = answered(ran.map(|ran| [ran.listed, ran.emitted]));
             Answered { slots: Some((pixels, masks)), ..answer }
@@ -172,9 +175,9 @@ fn check_run(inputs: &mut Inputs, player: &Frame, original: &draws::Frame, read:
 }
 
 /// The whole list of a draw's pixels. Answers how many there are.
-fn check_list(player: &Frame, original: &draws::Frame, draw: &draws::Draw) -> u64 {
+fn check_list(engine: Engine, player: &Frame, original: &draws::Frame, draw: &draws::Draw) -> u64 {
     let expected = EmittedList::of(original, draw);
-    let list = player.emitted_pixels(&player_draw(draw, &vertices(draw)));
+    let list = player.emitted_pixels(&player_draw(engine, draw, &vertices(draw)));
     assert_eq!(list.as_ref().map_or_else(|refusal| refusal.number(), |_| 0), expected.number());
     let pairs: Vec<_> = list.iter().flatten().map(|emitted| (emitted.pixel as u32, emitted.mask)).collect();
     assert_eq!(pairs, expected.pixels());
@@ -188,27 +191,34 @@ struct Counts {
     reads: [u64; 11],
     words: u64,
     emitted: [u64; 21],
-    listed: u64,
+    /// By the engine.
+    listed: [u64; 2],
 }
 
 fn check(inputs: &mut Inputs, list: &List, counts: &mut Counts) {
     let mut original = list.frame.clone();
-    let mut player = player_frame(&original);
+    let mut players = ENGINES.map(|engine| (engine, player_frame(&original)));
     for step in &list.steps {
         let before = original.text();
-        let answers = (on_player(&mut player, step), on_original(&mut original, step));
-        assert_eq!(answers.0, answers.1, "player and Rust differ: {} on {before}", step.text());
-        assert!(same(&player, &original), "the frames differ after {} on {before}", step.text());
-        let number = answers.1.number as usize;
+        let answer = on_original(&mut original, step);
+        for (engine, player) in &mut players {
+            let called = format!("{engine:?}, {} on {before}", step.text());
+            assert_eq!(on_player(*engine, player, step), answer, "player and Rust differ: {called}");
+            assert!(same(player, &original), "the frames differ: {called}");
+        }
+        let [(_, player), _] = &players;
+        let number = answer.number as usize;
         match step {
             Step::Draw(_) => counts.draws[number] += 1,
             Step::Read(read) => {
                 counts.reads[number] += 1;
-                counts.words += check_run(inputs, &player, &original, read);
+                counts.words += check_run(inputs, player, &original, read);
             }
             Step::EmittedPixel(one) => {
                 counts.emitted[number] += 1;
-                counts.listed += check_list(&player, &original, &one.draw);
+                for (listed, (engine, player)) in counts.listed.iter_mut().zip(&players) {
+                    *listed += check_list(*engine, player, &original, &one.draw);
+                }
             }
             Step::EmittedPixels(_) => counts.emitted[number] += 1,
         }
@@ -225,11 +235,11 @@ fn lists_at_random() {
         check(&mut inputs, &list, &mut counts);
     }
     let Counts { draws, reads, words, emitted, listed } = counts;
-    println!("{LISTS} lists; draws by number {draws:?}, reads by number {reads:?}, {words} words in runs");
-    println!("emitted pixels by number {emitted:?}, {listed} in whole lists");
+    println!("{LISTS} lists, each with {ENGINES:?}; draws by number {draws:?}, reads by number {reads:?}, {words} words in runs");
+    println!("emitted pixels by number {emitted:?}, {listed:?} in whole lists");
     assert!(draws.iter().all(|count| *count > 100), "{draws:?}");
     assert!((0..8).chain([20]).all(|number| emitted[number] > 100), "{emitted:?}");
-    assert!(listed > 10_000, "{listed}");
+    assert!(listed.iter().all(|listed| *listed > 10_000), "{listed:?}");
     assert!([0, 1, 2, 3, 8, 9, 10].iter().all(|number| reads[*number] > 100), "{reads:?}");
     assert!(words > 10_000, "{words}");
 }

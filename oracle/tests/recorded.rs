@@ -1,7 +1,9 @@
 //! The samples that crates replay and replay_lists ask of the port are what is recorded today: the original's answers, and
-//! what lists come to on the frame of frame.rs. The library is asked nothing.
+//! what lists come to on the frame of frame.rs, and on the library under each choice of its engine.
 
-use oracle::inputs::SEED;
+use oracle::compare_frame::beside_original;
+use oracle::engines::Library;
+use oracle::inputs::{Inputs, SEED};
 use oracle::{record, record_lists};
 
 /// Holds a sample to its file; `command` records it.
@@ -22,4 +24,14 @@ fn answers() {
 #[test]
 fn lists() {
     held("replay_lists", "lists", record_lists::lines(SEED));
+}
+
+#[test]
+fn lists_under_each_choice_of_the_engine() {
+    let sample = record_lists::sample(SEED);
+    for library in Library::each(&Inputs::new(SEED)) {
+        for list in &sample {
+            beside_original(&library, list).unwrap_or_else(|difference| panic!("{}", library.said(difference)));
+        }
+    }
 }

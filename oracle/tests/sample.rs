@@ -145,6 +145,7 @@ fn lines(frame: &mut Frame, step: Step) -> Vec<String> {
             let call = format!("masks {name}: {}", pixels(list.number(), list.pixels().len() as u64));
             std::iter::once(call).chain(stretches(&list)).collect()
         }
+        Step::Samples(name, ..) => panic!("samples {name}: album.txt has no such statement"),
         Step::Word { pixel, writer } => vec![format!("word {pixel}: {}", answer(word(frame, pixel, writer)))],
         Step::Words { first, count, writer } => {
             let word = |i| word(frame, first + i, writer).unwrap_or_else(|_| "----".into());
