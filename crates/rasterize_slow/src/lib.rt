@@ -4,7 +4,7 @@
 // walks through it on one triangle.
 ghost use mathlib.Core.Path.{_≡_};
 ghost use mathlib.Core.Bool.{true, cond};
-ghost use Prim.Native.Nat.{_+_, _*_, _/_, _<_, _≤_};
+ghost use Prim.Native.Nat.{_/_, _<_, _≤_};
 ghost use lib.ListN.{length};
 ghost use Rattle.frame.specs.Lent.{old, lent, before, after};
 ghost use Rattle.frame.specs.Fits.{Fit};
