@@ -178,7 +178,7 @@ END {
     root("frame_draw/Outcome/Outcome"); root("frame_emitted/Outcomes/PixelOutcome"); root("frame_emitted/Outcomes/PixelsOutcome")
     root("theorem_calls/Choices/SameButChoices"); root("theorem_calls/Choices/rechosen"); root("theorem_calls/Choices/SameOutcome")
     root("theorem_secrecy/Runs/Secret"); root("frame/Alike/Alike"); root("theorem_truth/Truth/Truth"); root("theorem_truth/Completed/completed"); root("theorem_truth/Console/consoleAfterAll"); root("frame/Knows/AllKnown")
-    root("frame_pixel/Certain/CertainColors"); root("frame_pixel/Certain/CertainCoverage"); root("frame_pixel/Certain/coverageGivenUp"); root("frame_pixel/Certain/SameAtEnds")
+    root("frame_pixel/Certain/CertainColors"); root("frame_pixel/Certain/CertainCoverage"); root("frame_pixel/Certain/SameAtEnds")
     root("theorem_values/Table/table"); root("theorem_values/Table/Holds"); root("words_pack/Depth/Within"); root("writeback_pixel/Counted/counted"); root("frame/Loads/ColorKnown"); root("frame/Loads/CoverageKnown"); root("frame/Loads/Loadable")
     for (at = 1; at <= last; at++) { n = split(cited[queue[at]], part, " "); for (i = 1; i <= n; i++) root(part[i]) }
 

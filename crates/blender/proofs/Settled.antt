@@ -1,118 +1,102 @@
--- `settled` is exact: where it holds `destination` gives one number for every memory coverage 0 to 7, and where that number is the same for 0 and for 7 it holds. So
--- the eight questions come down to two. Assumes nothing.
+-- Where `destination` gives one number for every memory coverage. The eight questions come down to two: if it gives one number for 0 and for 7 it gives that for all; and
+-- `settledOf`, which asks none, is what the two say. Assumes nothing.
 use Prim.Native.Nat.{ℕ, _+_, _-_, _%_, _≤_, min}
 use mathlib.Core.Path.{_≡_, refl, sym, ap, _∙_}
 use mathlib.Core.Bool.{Bool, true, false, cond, not, _&&_, _||_}
-use native.Mathlib.Decide.{ℕ-discrete}
 use native.Mathlib.Omega.{arith}
-use borrow.Author.Tests.{eqb-true, eq-eqb, ne-eqb, le-leb, lt-leb}
-use lib.Dec.{eqb}
+use borrow.Author.Tests.{leb-true, leb-false, eq-eqb, ne-eqb, le-leb, lt-leb}
+use lib.Dec.{leb, eqb}
 use Rattle.state.specs.declared.RenderMode.{RenderMode}
-use Rattle.blender.specs.declared.Coverage.the-variants.{Known}
-use Rattle.blender.specs.Mux.{pick}
+use Rattle.blender.specs.declared.Coverage.{Coverage}
+use Rattle.blender.specs.declared.Coverage.the-variants.{Unknown, Known}
 use Rattle.blender.specs.Coverage.{overflow, blends, clampOf, destinationOf}
-use Rattle.blender.specs.Settled.{settled}
-use Rattle.num_float.proofs.Tests.{never}
+use Rattle.blender.specs.Settled.{settledClamp, settledOf}
 
--- seven or eight samples
-seven : (n : ℕ) (f : Bool) → (eqb n 8 || (f && eqb n 7)) ≡ true → 7 ≤ n
-seven n f t = go (ℕ-discrete n 8) (ℕ-discrete n 7) f t
-  where
-    go : Dec (n ≡ 8) → Dec (n ≡ 7) → (f : Bool) → (eqb n 8 || (f && eqb n 7)) ≡ true → 7 ≤ n
-    go (yes e) q f t = omega arith
-    go (no e) (yes q) f t = omega arith
-    go (no e) (no q) f t = never (sym (none f) ∙ t)
-      where
-        none : (f : Bool) → (eqb n 8 || (f && eqb n 7)) ≡ false
-        none true = λ i. ne-eqb n 8 e i || ne-eqb n 7 q i
-        none false = λ i. ne-eqb n 8 e i || false
+-- what two answers say: the number, if they are one
+abbrev pub oneNumber : ℕ → ℕ → Coverage
+oneNumber last first = cond (eqb last first) (Known first) Unknown
 
-eight : (n : ℕ) → (eqb n 8 || false) ≡ true → n ≡ 8
-eight n t = eqb-true n 8 (go (eqb n 8) t)
-  where
-    go : (b : Bool) → (b || false) ≡ true → b ≡ true
-    go true t = refl
-    go false t = never t
+one-known : (last first v : ℕ) → last ≡ v → first ≡ v → Known v ≡ oneNumber last first
+one-known last first v p q = sym ((λ i. cond (eq-eqb last first (p ∙ sym q) i) (Known first) Unknown) ∙ ap Known q)
 
-module _ (mode : RenderMode) (n : ℕ) where
+one-unknown : (last first : ℕ) → (last ≡ first → ⊥) → Unknown ≡ oneNumber last first
+one-unknown last first p = sym (λ i. cond (ne-eqb last first p i) (Known first) Unknown)
+
+module _ (n : ℕ) where
   abbrev clamp : Bool → Bool → ℕ → ℕ
   clamp f a c = cond (f || (a && not (overflow n c))) (min (n + c) 7) (n - 1)
 
-  -- clamp over every memory coverage, where it is settled
-  clamped : (f a : Bool) → ((not f && not a) || (eqb n 8 || (f && eqb n 7))) ≡ true → (c : ℕ) → clamp f a c ≡ cond (f || a) 7 (n - 1)
-  clamped true a t c = let l = seven n true t in omega arith
-  clamped false true t c = let e = eight n t in (λ i. cond (not (le-leb 8 (n + c) (omega arith) i)) (min (n + c) 7) (n - 1)) ∙ omega arith
-  clamped false false t c = refl
+  -- with antialiasing alone: the pixel's own samples where they overflow, else the sum
+  own : (c : ℕ) → 8 ≤ n + c → clamp false true c ≡ n - 1
+  own c l = λ i. cond (not (le-leb 8 (n + c) l i)) (min (n + c) 7) (n - 1)
 
-  pub settled-same : settled mode n ≡ true → (c : ℕ) → destinationOf mode n c ≡ destinationOf mode n 0
-  unfolding settled destinationOf blends clampOf
-  settled-same t c = go (eqb k 2) refl (eqb k 0) refl t
+  sum : (c : ℕ) → n + c ≤ 7 → clamp false true c ≡ n + c
+  sum c l = (λ i. cond (not (lt-leb 8 (n + c) (omega arith) i)) (min (n + c) 7) (n - 1)) ∙ omega arith
+
+  -- fewer than eight do not overflow over 0, and all but none overflow over 7
+  fewer : n ≤ 7 → clamp false true 7 ≡ clamp false true 0 → ⊥
+  fewer l e = go (leb 1 n) refl
     where
-      k : ℕ
-      k = mode .«cvg_dst»
+      go : (b : Bool) → leb 1 n ≡ b → ⊥
+      go true h =
+          let last = own 7 (omega (arith, leb-true 1 n h)) in
+          let first = sum 0 (omega arith) in
+          let same : n - 1 ≡ n + 0 = sym last ∙ e ∙ first in
+          omega (arith, leb-true 1 n h)
+      go false h =
+          let last = sum 7 (omega (arith, leb-false 1 n h)) in
+          let first = sum 0 (omega arith) in
+          let same : n + 7 ≡ n + 0 = sym last ∙ e ∙ first in
+          omega arith
 
-      f : Bool
-      f = mode .«force_blend»
-
-      a : Bool
-      a = mode .antialias
-
-      at : ℕ → ℕ → ℕ
-      at j d = pick j (clamp f a d) ((n + d) % 8) 7 d
-
-      go :
-          (two : Bool) → eqb k 2 ≡ two → (none : Bool) → eqb k 0 ≡ none
-          → (two || (none && ((not f && not a) || (eqb n 8 || (f && eqb n 7))))) ≡ true → at k c ≡ at k 0
-      go true e none z t = ap (λ (j : ℕ). at j c) (eqb-true k 2 e) ∙ sym (ap (λ (j : ℕ). at j 0) (eqb-true k 2 e))
-      go false e true z t =
-          ap (λ (j : ℕ). at j c) (eqb-true k 0 z) ∙ clamped f a t c ∙ sym (clamped f a t 0) ∙ sym (ap (λ (j : ℕ). at j 0) (eqb-true k 0 z))
-      go false e false z t = never t
-
-  -- asked of coverages 0 and 7
-  asked : (f a : Bool) → 1 ≤ n → n ≤ 8 → clamp f a 7 ≡ clamp f a 0 → ((not f && not a) || (eqb n 8 || (f && eqb n 7))) ≡ true
-  asked false false p q e = refl
-  asked true a p q e = go (ℕ-discrete n 8)
+  clamp-ends : (f a : Bool) → clamp f a 7 ≡ clamp f a 0 → (c : ℕ) → clamp f a c ≡ clamp f a 0
+  clamp-ends true a e c = omega arith
+  clamp-ends false false e c = refl
+  clamp-ends false true e c = go (leb 8 n) refl
     where
-      go : Dec (n ≡ 8) → (eqb n 8 || eqb n 7) ≡ true
-      go (yes h) = λ i. eq-eqb n 8 h i || eqb n 7
-      go (no h) = (λ i. ne-eqb n 8 h i || eqb n 7) ∙ eq-eqb n 7 (omega arith)
-  asked false true p q e = go (ℕ-discrete n 8)
+      go : (b : Bool) → leb 8 n ≡ b → clamp false true c ≡ clamp false true 0
+      go true h = let l = leb-true 8 n h in own c (omega arith) ∙ sym (own 0 (omega arith))
+      go false h = absurd (fewer (omega (arith, leb-false 8 n h)) e)
+
+  -- the closed form of clamp
+  settled-clamp :
+      1 ≤ n → n ≤ 8 → (f a : Bool) → settledClamp f a n ≡ oneNumber (clamp f a 7) (clamp f a 0)
+  settled-clamp p q false false = one-known (n - 1) (n - 1) (n - 1) refl refl
+  settled-clamp p q true a = go (leb 7 n) refl
     where
-      go : Dec (n ≡ 8) → (eqb n 8 || false) ≡ true
-      go (yes h) = λ i. eq-eqb n 8 h i || false
-      go (no h) =
-          let full : n - 1 ≡ clamp false true 7 = λ i. cond (not (sym (le-leb 8 (n + 7) (omega arith)) i)) (min (n + 7) 7) (n - 1) in
-          let own : clamp false true 0 ≡ min (n + 0) 7 = λ i. cond (not (lt-leb 8 (n + 0) (omega arith) i)) (min (n + 0) 7) (n - 1) in
-          let both : n - 1 ≡ min (n + 0) 7 = full ∙ e ∙ own in
-          absurd (omega arith)
-
-  pub same-settled : 1 ≤ n → n ≤ 8 → destinationOf mode n 7 ≡ destinationOf mode n 0 → settled mode n ≡ true
-  unfolding settled destinationOf blends clampOf
-  same-settled p q same = go (eqb k 0) (eqb k 1) (eqb k 2) same
+      go : (b : Bool) → leb 7 n ≡ b → cond b (Known 7) Unknown ≡ oneNumber (min (n + 7) 7) (min (n + 0) 7)
+      go true h = let l = leb-true 7 n h in one-known (min (n + 7) 7) (min (n + 0) 7) 7 (omega arith) (omega arith)
+      go false h = let l = leb-false 7 n h in one-unknown (min (n + 7) 7) (min (n + 0) 7) (λ e. omega arith)
+  settled-clamp p q false true = go (leb 8 n) refl
     where
-      k : ℕ
-      k = mode .«cvg_dst»
+      go : (b : Bool) → leb 8 n ≡ b → cond b (Known 7) Unknown ≡ oneNumber (clamp false true 7) (clamp false true 0)
+      go true h =
+          let l = leb-true 8 n h in
+          one-known (clamp false true 7) (clamp false true 0) 7 (own 7 (omega arith) ∙ omega arith) (own 0 (omega arith) ∙ omega arith)
+      go false h = one-unknown (clamp false true 7) (clamp false true 0) (fewer (omega (arith, leb-false 8 n h)))
 
-      f : Bool
-      f = mode .«force_blend»
+module _ (mode : RenderMode) (n : ℕ) where
+  -- `destination` by its tests of cvg_dst
+  abbrev at : Bool → Bool → Bool → ℕ → ℕ
+  at zero wrap two c = cond zero (clamp n (mode .«force_blend») (mode .antialias) c) (cond wrap ((n + c) % 8) (cond two 7 c))
 
-      a : Bool
-      a = mode .antialias
-
-      at : Bool → Bool → Bool → ℕ → ℕ
-      at none one two d = cond none (clamp f a d) (cond one ((n + d) % 8) (cond two 7 d))
-
-      go : (none one two : Bool) → at none one two 7 ≡ at none one two 0 → (two || (none && ((not f && not a) || (eqb n 8 || (f && eqb n 7))))) ≡ true
-      go none one true e = refl
-      go true one false e = asked f a p q e
-      go false true false e = absurd (omega arith)
+  -- for every count and every number in place of a coverage
+  pub ends-same : destinationOf mode n 7 ≡ destinationOf mode n 0 → (c : ℕ) → destinationOf mode n c ≡ destinationOf mode n 0
+  unfolding destinationOf blends clampOf
+  ends-same e c = go (eqb (mode .«cvg_dst») 0) (eqb (mode .«cvg_dst») 1) (eqb (mode .«cvg_dst») 2) e
+    where
+      go : (zero wrap two : Bool) → at zero wrap two 7 ≡ at zero wrap two 0 → at zero wrap two c ≡ at zero wrap two 0
+      go true wrap two e = clamp-ends n (mode .«force_blend») (mode .antialias) e c
+      go false true two e = absurd (omega arith)
+      go false false true e = refl
       go false false false e = absurd (omega arith)
 
--- the two cases that F5 has for a coverage that is not known
-pub settled-full : (mode : RenderMode) (n c : ℕ) → mode .«cvg_dst» ≡ 2 → destinationOf mode n c ≡ 7
-unfolding destinationOf
-settled-full mode n c e = ap (λ (k : ℕ). pick k (clampOf (blends mode n (Known c)) n c) ((n + c) % 8) 7 c) e
-
-pub settled-own : (mode : RenderMode) (n c : ℕ) → mode .«cvg_dst» ≡ 0 → mode .«force_blend» ≡ false → mode .antialias ≡ false → destinationOf mode n c ≡ n - 1
-unfolding destinationOf clampOf blends
-settled-own mode n c e f a = λ i. pick (e i) (clampOf (f i || (a i && not (overflow n c))) n c) ((n + c) % 8) 7 c
+  pub settled-ends : 1 ≤ n → n ≤ 8 → settledOf mode n ≡ oneNumber (destinationOf mode n 7) (destinationOf mode n 0)
+  unfolding settledOf destinationOf blends clampOf
+  settled-ends p q = go (eqb (mode .«cvg_dst») 0) (eqb (mode .«cvg_dst») 1) (eqb (mode .«cvg_dst») 2)
+    where
+      go : (zero wrap two : Bool) → cond zero (settledClamp (mode .«force_blend») (mode .antialias) n) (cond wrap Unknown (cond two (Known 7) Unknown)) ≡ oneNumber (at zero wrap two 7) (at zero wrap two 0)
+      go true wrap two = settled-clamp n p q (mode .«force_blend») (mode .antialias)
+      go false true two = one-unknown ((n + 7) % 8) ((n + 0) % 8) (λ e. omega arith)
+      go false false true = refl
+      go false false false = refl

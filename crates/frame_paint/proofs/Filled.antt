@@ -2,8 +2,9 @@
 use mathlib.Core.Path.{_≡_, refl, sym, ap, subst, _∙_}
 use mathlib.Core.Bool.{Bool, true, false, cond, _||_, not}
 use mathlib.Core.List.{List}
-use Prim.Native.Nat.{ℕ, zero, suc, _+_, _-_, _*_, _≤_, _<_}
+use Prim.Native.Nat.{ℕ, zero, suc, _+_, _-_, _*_, _<_}
 use native.Mathlib.Omega.{arith}
+use lib.Bits.{bitOr}
 use lib.ListN.{length, getD, set}
 use Rattle.num_bits.proofs.Masks.{ones-full}
 use Rattle.num_float.specs.Color.{f1}
@@ -11,13 +12,12 @@ use Rattle.state.specs.declared.RenderMode.{RenderMode}
 use Rattle.state.specs.declared.Rgba.{Rgba}
 use Rattle.combiner.specs.declared.Combiner.{Combiner}
 use Rattle.blender.specs.declared.Coverage.the-variants.{Unknown, Known}
-use Rattle.frame_pixel.specs.declared.Pixel.{Pixel}
 use Rattle.frame_pixel.specs.declared.Colors.{Colors}
 use Rattle.frame_pixel.specs.declared.full.Full.{Full}
 use Rattle.frame_pixel.specs.Marks.{colorMarked, coverageMarked, unknown, markOf}
-use Rattle.frame_pixel.specs.Rules.{ruleF4, coverageByte, coverageAt, assembled}
+use Rattle.frame_pixel.specs.Rules.{coverageByte, coverageAt, assembled}
 use Rattle.frame_pixel.specs.Coloring.{overColors}
-use Rattle.frame_pixel.specs.Full.{FullOf, Enough, fullKnown, fullColors, fullCoverage, fullWith, fullStep}
+use Rattle.frame_pixel.specs.Full.{FullOf, Enough, fullCoverage, fullWith, fullStep}
 use Rattle.frame_pixel.proofs.Fulls.{full-step}
 use Rattle.raster_pixel.specs.Parts.{parts, from}
 use Rattle.frame.specs.Frame.{Frame, frameOf, pixelAt, putPixel}
@@ -29,19 +29,12 @@ use Rattle.frame_paint.proofs.Fits.{fit-step}
 use Rattle.frame_paint.proofs.Steps.{set-back, three-back}
 
 -- ---- what is stored
-module _ (fills settles : Bool) (cs : List ℕ) (p : ℕ) (h : p < length cs) where
-  full-coverage :
-      (m : Bool) → putIf (cond m fills settles) cs p 7 ≡ set cs p (coverageByte (fullCoverage fills settles (cond m (Known (getD cs p 0)) Unknown)) (getD cs p 0))
-  full-coverage true = go fills
-    where
-      go : (b : Bool) → putIf b cs p 7 ≡ set cs p (cond b 7 (getD cs p 0))
-      go true = refl
-      go false = sym (set-back cs p h)
-  full-coverage false = go settles
-    where
-      go : (b : Bool) → putIf b cs p 7 ≡ set cs p (coverageByte (cond b (Known 7) Unknown) (getD cs p 0))
-      go true = refl
-      go false = sym (set-back cs p h)
+full-coverage :
+    (fills m : Bool) (cs : List ℕ) (p : ℕ) → p < length cs
+    → putIf fills cs p 7 ≡ set cs p (coverageByte (fullCoverage fills (cond m (Known (getD cs p 0)) Unknown)) (getD cs p 0))
+full-coverage true m cs p h = refl
+full-coverage false true cs p h = sym (set-back cs p h)
+full-coverage false false cs p h = sym (set-back cs p h)
 
 full-colors :
     (known : Bool) (l : List ℕ) (p : ℕ) (new : Colors) → 3 * p + 2 < length l
@@ -50,10 +43,17 @@ full-colors :
 full-colors true l p new h = refl
 full-colors false l p new h = sym (three-back l (3 * p) h)
 
-full-covered : (m fills settles : Bool) (c : ℕ) → (m || settles) ≡ not (unknown (fullCoverage fills settles (cond m (Known c) Unknown)))
-full-covered true fills settles c = refl
-full-covered false fills true c = refl
-full-covered false fills false c = refl
+-- the marks that it sets, joined with those of its colour and of the coverage that stood there
+full-mark : (known m fills : Bool) (c : ℕ) → bitOr (markOf known m) (markOf false fills) ≡ markOf known (not (unknown (fullCoverage fills (cond m (Known c) Unknown))))
+unfolding markOf
+full-mark true true true c = refl
+full-mark true true false c = refl
+full-mark true false true c = refl
+full-mark true false false c = refl
+full-mark false true true c = refl
+full-mark false true false c = refl
+full-mark false false true c = refl
+full-mark false false false c = refl
 
 -- the memory's bytes are looked at where they are known
 looked : (l marked o : Bool) (over : Colors → Colors) (own memory : Colors)
@@ -64,10 +64,10 @@ looked false marked o over own memory = refl
 
 module _ (full : Full) (f : Frame) (p : ℕ) (place : p < length (f .marks)) (long : Long f) where
   pub filled :
-      {m known s : Bool} {new : Colors} {a : ℕ} {g : Frame} → m ≡ coverageMarked (getD (f .marks) p 0)
+      {m known : Bool} {new : Colors} {a : ℕ} {g : Frame} → m ≡ coverageMarked (getD (f .marks) p 0)
       → known ≡ cond (full .layered) (colorMarked (getD (f .marks) p 0)) (full .sure || m)
       → new ≡ cond (full .layered) (overColors (full .layer) (colorsIf (colorMarked (getD (f .marks) p 0)) (colorsAt (f .colors) p))) (full .own)
-      → s ≡ cond m (full .fills) (full .settles) → a ≡ markOf known (m || full .settles) → g ≡ storedAt f p known new s 7 a
+      → full .sets ≡ markOf false (full .fills) → a ≡ markOf known m → g ≡ storedAt f p known new (full .fills) 7 (bitOr a (full .sets))
       → g ≡ row.filledAt full f p
   unfolding fullStep fullWith assembled
   filled em ek en es ea eg =
@@ -77,17 +77,16 @@ module _ (full : Full) (f : Frame) (p : ℕ) (place : p < length (f .marks)) (lo
       let known = cond (full .layered) marked (full .sure || m) in
       let new = cond (full .layered) (overColors (full .layer) (colorsIf marked (colorsAt (f .colors) p))) (full .own) in
       let ek′ = ek ∙ (λ i. cond (full .layered) marked (full .sure || em i)) in
-      let ea′ = ea ∙ (λ i. markOf (ek′ i) (em i || full .settles)) ∙ (λ i. markOf known (full-covered m (full .fills) (full .settles) (x .coverage) i)) in
-      let es′ = es ∙ (λ i. cond (em i) (full .fills) (full .settles)) in
+      let ea′ = (λ i. bitOr ((ea ∙ (λ j. markOf (ek′ j) (em j))) i) (es i)) ∙ full-mark known m (full .fills) (x .coverage) in
       let colors =
       full-colors known (f .colors) p new (omega (arith, place, long .colors))
       ∙ (λ i.
       let c = looked (full .layered) marked (full .sure || m) (overColors (full .layer)) (full .own) (colorsAt (f .colors) p) i in
       set (set (set (f .colors) (3 * p) (c .red)) (3 * p + 1) (c .green)) (3 * p + 2) (c .blue)) in
-      let coverages = full-coverage (full .fills) (full .settles) (f .coverages) p (omega (arith, place, long .coverages)) m in
+      let coverages = full-coverage (full .fills) m (f .coverages) p (omega (arith, place, long .coverages)) in
       eg
-      ∙ (λ i. storedAt f p (ek′ i) (en i) (es′ i) 7 (ea′ i))
-      ∙ (λ i. frameOf (colors i) (coverages i) (set (f .marks) p (markOf known (not (unknown (fullCoverage (full .fills) (full .settles) (coverageAt x)))))))
+      ∙ (λ i. storedAt f p (ek′ i) (en i) (full .fills) 7 (ea′ i))
+      ∙ (λ i. frameOf (colors i) (coverages i) (set (f .marks) p (markOf known (not (unknown (fullCoverage (full .fills) (coverageAt x)))))))
 
 -- ---- that is a step
 module _ {mode : RenderMode} {k : Combiner} {color : Rgba} {full : Full} (o : FullOf mode k color full) (e : Enough mode full) where

@@ -1,10 +1,10 @@
 // A run of pixels of one colour, each with all its samples: no sample is tested, and what does not turn on the pixel was worked out before.
 ghost use mathlib.Core.Path.{_≡_};
-ghost use mathlib.Core.Bool.{true, cond, _||_};
+ghost use mathlib.Core.Bool.{true, false, cond, _||_};
 ghost use Prim.Native.Nat.{_+_, _<_, _≤_};
 ghost use lib.ListN.{length, getD};
 ghost use Rattle.raster_pixel.specs.Parts.{from};
-ghost use Rattle.frame_pixel.specs.Marks.{colorMarked};
+ghost use Rattle.frame_pixel.specs.Marks.{colorMarked, markOf};
 ghost use Rattle.frame_pixel.specs.Coloring.{overColors};
 ghost use Rattle.frame.specs.Lent.{old, lent, before, after};
 ghost use Rattle.frame.specs.Fits.{Long, colorsAt, colorsIf};
@@ -16,7 +16,6 @@ use crate::prepare::Paint;
 use frame_pixel::Colors;
 use frame_pixel::full::FULL_COVERAGE;
 use frame_pixel::full::Full;
-use frame_pixel::full::stores_full;
 
 // Whether a full pixel's colour is then known.
 fn full_known(full: Full, mark: u8, covered: bool) -> bool
@@ -45,14 +44,14 @@ fn full_colors(colors: &[u8], marks: &[u8], full: Full, pixel: usize) -> Colors
 fn fill_pixel(colors: &mut [u8], coverages: &mut [u8], marks: &mut [u8], full: Full, pixel: usize)
     requires { ⌜ pixel < length (now marks) ⌝ }
     requires { ⌜ Long (lent colors coverages marks) ⌝ }
+    requires { ⌜ full .sets ≡ markOf false (full .fills) ⌝ }
     ensures { λ r. ⌜ after colors coverages marks ≡ filledAt full (before colors coverages marks) pixel ⌝ }
 {
     let mark = marks[pixel];
     let covered = frame_pixel::coverage_marked(mark);
     let known = full_known(full, mark, covered);
     let new = full_colors(colors, marks, full, pixel);
-    let covers = stores_full(covered, full.fills, full.settles);
-    let after = frame_pixel::mark_of(known, covered | full.settles);
+    let after = frame_pixel::mark_of(known, covered) | full.sets;
     frame::store(
         colors,
         coverages,
@@ -60,7 +59,7 @@ fn fill_pixel(colors: &mut [u8], coverages: &mut [u8], marks: &mut [u8], full: F
         pixel,
         known,
         new,
-        covers,
+        full.fills,
         FULL_COVERAGE,
         after,
     );

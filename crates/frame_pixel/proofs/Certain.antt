@@ -1,5 +1,5 @@
--- What is known is certain, and how much that is certain is left unknown: of coverages and of colours in doubt exactly, and of pixels with all eight samples that are
--- not forced. Of other colours to which F1 says no it is not said; the comparison with the Rust counts them. Assumes nothing.
+-- What is known is certain, and a coverage that is certain is known. How many colours that are certain are left unknown: of those in doubt exactly, and of pixels with
+-- all eight samples that are not forced. Of other colours to which F1 says no it is not said; the comparison with the Rust counts them. Assumes nothing.
 use Prim.Native.Nat.{ℕ, _+_, _≤_}
 use mathlib.Core.Path.{_≡_, refl, sym, ap, subst, _∙_}
 use mathlib.Core.Bool.{Bool, true, false, cond, not, _&&_}
@@ -18,15 +18,14 @@ use Rattle.blender.specs.Mux.{muxOf}
 use Rattle.blender.specs.Coverage.{overflow, destinationOf}
 use Rattle.blender.specs.Known.{reject, missing}
 use Rattle.blender.specs.Blend.{orZero}
-use Rattle.blender.specs.Settled.{settled}
 use Rattle.blender.proofs.Knows.{Less, alone-same, blend-same, full-alone, alone-blend-same, alone-blend-memory}
-use Rattle.blender.proofs.Settled.{settled-same, same-settled}
 use Rattle.frame_pixel.specs.declared.Pixel.{Pixel}
 use Rattle.frame_pixel.specs.declared.Colors.{Colors}
 use Rattle.frame_pixel.specs.Marks.{colorMarked, coverageMarked, unknown}
-use Rattle.frame_pixel.specs.Rules.{ruleF1, ruleF2, unit, memoryOf, ruleF3, freshCoverage, ruleF5, coverageAt, knownAfter, colorsAfter, coverageAfter}
-use Rattle.frame_pixel.specs.Certain.{Completes, CertainColors, CertainCoverage, coverageGivenUp, colorsOver, SameAtEnds}
+use Rattle.frame_pixel.specs.Rules.{ruleF1, ruleF2, unit, memoryOf, ruleF3, ruleF5, coverageAt, knownAfter, colorsAfter, coverageAfter}
+use Rattle.frame_pixel.specs.Certain.{Completes, CertainColors, CertainCoverage, colorsOver, SameAtEnds}
 use Rattle.num_float.proofs.Tests.{never, both-left, both-right}
+use Rattle.frame_pixel.proofs.Eight.{fresh-known}
 use Rattle.frame_pixel.proofs.Knows.{memory-too, same-colors, coverage-too, all-covered, all-colors}
 
 -- ---- what is known is certain
@@ -40,87 +39,45 @@ module _ (mode : RenderMode) (k : Combiner) (s : Source) (x : Pixel) where
       same : {d : Coverage} → Less (Known c) d → d ≡ Known c
       same Less.same = refl
 
--- ---- a pixel whose coverage is not known, completed by a coverage
-module _ (x : Pixel) (u : coverageAt x ≡ Unknown) where
-  unmarked : coverageMarked (x .mark) ≡ false
-  unmarked = go (coverageMarked (x .mark)) u
-    where
-      go : (b : Bool) → cond b (Known (x .coverage)) Unknown ≡ Unknown → b ≡ false
-      go true e = ap (λ (c : Coverage). not (unknown c)) e
-      go false e = refl
-
+-- ---- a pixel completed by a coverage: any, where its own is not known
+module _ (x : Pixel) where
   abbrev withCoverage : ℕ → Pixel
   withCoverage c = record { red = x .red; green = x .green; blue = x .blue; coverage = c; mark = 3 }
 
-  completes : (c : ℕ) → c ≤ 7 → Completes (withCoverage c) x
-  completes c l =
+  completes : (c : ℕ) → c ≤ 7 → (coverageMarked (x .mark) ≡ true → c ≡ x .coverage) → Completes (withCoverage c) x
+  completes c l own =
       record {
-        knows = record {
-          mark1 = λ t. refl;
-          red = λ t. refl;
-          green = λ t. refl;
-          blue = λ t. refl;
-          mark2 = λ t. refl;
-          coverage = λ t. never (sym unmarked ∙ t);
-        };
+        knows = record { mark1 = λ t. refl; red = λ t. refl; green = λ t. refl; blue = λ t. refl; mark2 = λ t. refl; coverage = own };
         all = record { mark1 = refl; mark2 = refl };
         low = l;
       }
 
+  any : coverageAt x ≡ Unknown → (c : ℕ) → c ≤ 7 → Completes (withCoverage c) x
+  any u c l = completes c l (λ t. never (ap unknown (sym (λ i. cond (t i) (Known (x .coverage)) Unknown) ∙ u)))
+
 -- ---- a coverage
-is-unknown : (c : Coverage) → unknown c ≡ true → c ≡ Unknown
-is-unknown Unknown t = refl
-is-unknown (Known c) t = never t
-
-number : {c d : ℕ} → Known c ≡ Known d → c ≡ d
-number e = ap value e
-  where
-    value : Coverage → ℕ
-    value Unknown = 0
-    value (Known c) = c
-
 module _ (mode : RenderMode) (s : Source) (x : Pixel) where
   -- over what x may really be, `destination` answers
   coverage-of : (y : Pixel) → Completes y x → coverageAfter mode s y ≡ Known (destinationOf mode (s .count) (y .coverage))
   unfolding coverageAfter ruleF5
   coverage-of y q = ap (ruleF5 mode (s .count)) (all-covered y (q .all))
 
-  was-unknown : (c : Coverage) → ruleF5 mode (s .count) c ≡ Unknown → c ≡ Unknown
-  unfolding ruleF5
-  was-unknown Unknown e = refl
-  was-unknown (Known c) e = never (ap unknown e)
-
-  fresh-left : (c : Coverage) → c ≡ Unknown → ruleF5 mode (s .count) c ≡ Unknown → freshCoverage mode (s .count) ≡ Unknown
-  unfolding ruleF5
-  fresh-left c u e = sym (ap (ruleF5 mode (s .count)) u) ∙ e
-
-  -- where it is given up it is certain
-  pub given-up-certain :
-      coverageAt x ≡ Unknown → coverageGivenUp mode (s .count) ≡ true
-      → (coverageAfter mode s x ≡ Unknown) × CertainCoverage mode s x (destinationOf mode (s .count) 0)
-  unfolding coverageGivenUp coverageAfter ruleF5
-  given-up-certain u t =
-      let n = s .count in
-      let one = settled mode n in
-      let left = unknown (freshCoverage mode n) in (
-        ap (ruleF5 mode n) u ∙ is-unknown (freshCoverage mode n) (both-right one left t),
-        λ y q. coverage-of y q ∙ ap Known (settled-same mode n (both-left one left t) (y .coverage)),
-      )
-
-  -- and a certain coverage that F5 leaves unknown is given up
-  pub certain-given-up :
-      1 ≤ s .count → s .count ≤ 8 → coverageAfter mode s x ≡ Unknown → (v : ℕ) → CertainCoverage mode s x v → coverageGivenUp mode (s .count) ≡ true
-  unfolding coverageGivenUp coverageAfter
-  certain-given-up p q left v certain = λ i. same-settled mode n p q (at 7 (omega arith) ∙ sym (at 0 (omega arith))) i && unknown (fresh-left (coverageAt x) u left i)
+  -- what is certain is known: F5 gives nothing up
+  pub certain-covered : orZero (coverageAt x) ≤ 7 → (v : ℕ) → CertainCoverage mode s x v → coverageAfter mode s x ≡ Known v
+  unfolding coverageAfter ruleF5
+  certain-covered low v certain = go (coverageMarked (x .mark)) refl
     where
-      n : ℕ
-      n = s .count
-
-      u : coverageAt x ≡ Unknown
-      u = was-unknown (coverageAt x) left
-
-      at : (c : ℕ) → c ≤ 7 → destinationOf mode n c ≡ v
-      at c l = number (sym (coverage-of (withCoverage x u c) (completes x u c l)) ∙ certain (withCoverage x u c) (completes x u c l))
+      go : (b : Bool) → coverageMarked (x .mark) ≡ b → ruleF5 mode (s .count) (coverageAt x) ≡ Known v
+      go true e =
+          let at : coverageAt x ≡ Known (x .coverage) = λ i. cond (e i) (Known (x .coverage)) Unknown in
+          let y = withCoverage x (x .coverage) in
+          let q = completes x (x .coverage) (subst (λ (c : Coverage). orZero c ≤ 7) at low) (λ t. refl) in
+          ap (ruleF5 mode (s .count)) at ∙ sym (coverage-of y q) ∙ certain y q
+      go false e =
+          let u : coverageAt x ≡ Unknown = λ i. cond (e i) (Known (x .coverage)) Unknown in
+          ap (ruleF5 mode (s .count)) u
+          ∙ fresh-known mode (s .count) v
+          (λ c l. ap orZero (sym (coverage-of (withCoverage x c) (any x u c l)) ∙ certain (withCoverage x c) (any x u c l)))
 
 -- ---- a colour in doubt: F1 says yes, and F2 turns that down. It turns on the coverage only by whether the pixel is blended
 module _ (mode : RenderMode) (k : Combiner) (s : Source) (x : Pixel)
@@ -153,8 +110,8 @@ module _ (mode : RenderMode) (k : Combiner) (s : Source) (x : Pixel)
     where
       at : (c : ℕ) → c ≤ 7 → colorsOver mode k s x c ≡ v
       at c l =
-          sym (colors-really (withCoverage x no-coverage c) (completes x no-coverage c l) c refl)
-          ∙ certain (withCoverage x no-coverage c) (completes x no-coverage c l)
+          sym (colors-really (withCoverage x c) (any x no-coverage c l) c refl)
+          ∙ certain (withCoverage x c) (any x no-coverage c l)
 
   pub certain-doubt : 1 ≤ s .count → (v : Colors) → SameAtEnds mode k s x v → CertainColors mode k s x v
   certain-doubt p v same y q = go (overflow (s .count) (y .coverage)) refl

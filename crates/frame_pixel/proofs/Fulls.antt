@@ -25,16 +25,14 @@ use Rattle.frame_pixel.specs.Rules.{ruleF1, ruleF2, memoryOf, ruleF3, ru
 use Rattle.frame_pixel.specs.Coloring.{ownColors, overColors}
 use Rattle.frame_pixel.specs.Full.{isFull, FullOf, Enough, fullCoverage, fullWith, fullStep}
 use Rattle.num_float.proofs.Tests.{never}
+use Rattle.frame_pixel.proofs.Eight.{fresh-known, fresh-unknown}
 use Rattle.frame_pixel.proofs.Colorings.{where-known, opaque-yes, opaque-colors, layered-known, layered-colors}
 
--- ---- F5 with all eight samples, by what it makes of coverage 0 and of an unknown one
+-- ---- F5 with all eight samples, by what it makes of a coverage that is not known
 
--- what it does to a known coverage, and whether it makes an unknown one 7
+-- whether it makes a coverage 7
 abbrev fillsOf : RenderMode → Bool
 fillsOf mode = eqb (mode .«cvg_dst») 0 || eqb (mode .«cvg_dst») 2
-
-abbrev settlesOf : RenderMode → Bool
-settlesOf mode = eqb (mode .«cvg_dst») 2 || (eqb (mode .«cvg_dst») 0 && not (mode .«force_blend») && not (mode .antialias))
 
 picked :
     (zero one two fills : Bool) (c d : ℕ) → d ≡ 7 → (zero || two) ≡ fills → (zero ≡ true → two ≡ false) → (one ≡ true → (zero || two) ≡ false)
@@ -62,36 +60,29 @@ full-known mode c h =
     clamped true = omega arith
     clamped false = refl
 
-full-fresh : (mode : RenderMode) → freshCoverage mode 8 ≡ cond (settlesOf mode) (Known 7) Unknown
-unfolding freshCoverage
-full-fresh mode = go (eqb (mode .«cvg_dst») 2) (eqb (mode .«cvg_dst») 0 && not (mode .«force_blend») && not (mode .antialias))
+full-fresh : (mode : RenderMode) → freshCoverage mode 8 ≡ cond (fillsOf mode) (Known 7) Unknown
+full-fresh mode = go (fillsOf mode) (full-known mode)
   where
-    go : (a b : Bool) → cond a (Known 7) (cond b (Known (8 - 1)) Unknown) ≡ cond (a || b) (Known 7) Unknown
-    go true b = refl
-    go false b = refl
+    go : (b : Bool) → ((c : ℕ) → c ≤ 7 → destinationOf mode 8 c ≡ cond b 7 c) → freshCoverage mode 8 ≡ cond b (Known 7) Unknown
+    go true h = fresh-known mode 8 7 h
+    go false h = fresh-unknown mode 8 (λ e. let same : _≡_ {A = ℕ} 7 0 = sym (h 7 (omega arith)) ∙ e ∙ h 0 (omega arith) in omega arith)
 
-known-asked : (mode : RenderMode) → isFull (ruleF5 mode 8 (Known 0)) ≡ fillsOf mode
+fills-asked : (mode : RenderMode) → isFull (ruleF5 mode 8 Unknown) ≡ fillsOf mode
 unfolding ruleF5
-known-asked mode = (λ i. eqb (full-known mode 0 (omega arith) i) 7) ∙ go (fillsOf mode)
-  where
-    go : (b : Bool) → eqb (cond b 7 0) 7 ≡ b
-    go true = refl
-    go false = refl
-
-unknown-asked : (mode : RenderMode) → isFull (ruleF5 mode 8 Unknown) ≡ settlesOf mode
-unfolding ruleF5
-unknown-asked mode = ap isFull (full-fresh mode) ∙ go (settlesOf mode)
+fills-asked mode = ap isFull (full-fresh mode) ∙ go (fillsOf mode)
   where
     go : (b : Bool) → isFull (cond b (Known 7) Unknown) ≡ b
     go true = refl
     go false = refl
 
-full-rule :
-    (mode : RenderMode) (c : Coverage) → orZero c ≤ 7
-    → fullCoverage (isFull (ruleF5 mode 8 (Known 0))) (isFull (ruleF5 mode 8 Unknown)) c ≡ ruleF5 mode 8 c
+full-rule : (mode : RenderMode) (c : Coverage) → orZero c ≤ 7 → fullCoverage (isFull (ruleF5 mode 8 Unknown)) c ≡ ruleF5 mode 8 c
 unfolding ruleF5
-full-rule mode Unknown h = (λ i. cond (unknown-asked mode i) (Known 7) Unknown) ∙ sym (full-fresh mode)
-full-rule mode (Known c) h = (λ i. Known (cond (known-asked mode i) 7 c)) ∙ ap Known (sym (full-known mode c h))
+full-rule mode Unknown h = (λ i. cond (fills-asked mode i) (Known 7) Unknown) ∙ sym (full-fresh mode)
+full-rule mode (Known c) h = (λ i. cond (fills-asked mode i) (Known 7) (Known c)) ∙ go (fillsOf mode) ∙ ap Known (sym (full-known mode c h))
+  where
+    go : (b : Bool) → cond b (Known 7) (Known c) ≡ Known (cond b 7 c)
+    go true = refl
+    go false = refl
 
 -- ---- a pixel with all samples
 module _ (mode : RenderMode) (k : Combiner) (s : Source) (x : Pixel) (n : s .count ≡ 8) where
@@ -150,5 +141,5 @@ module _ (mode : RenderMode) (k : Combiner) (s : Source) (x : Pixel) (n : s .cou
     unfolding fullStep fullWith pixelStep coverageAfter
     full-step h low =
         let t = full-says (full .layered) refl h in
-        let c = (λ i. fullCoverage (f .fills i) (f .settles i) (coverageAt x)) ∙ full-rule mode (coverageAt x) low ∙ (λ i. ruleF5 mode (sym n i) (coverageAt x)) in
+        let c = (λ i. fullCoverage (f .fills i) (coverageAt x)) ∙ full-rule mode (coverageAt x) low ∙ (λ i. ruleF5 mode (sym n i) (coverageAt x)) in
         λ i. assembled (t .0 i) (t .1 i) (c i) (x .coverage)

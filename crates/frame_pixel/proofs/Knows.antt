@@ -1,12 +1,11 @@
 -- Knowing more never changes what was known: if pixel y knows at least what pixel x knows, then it does so after a step. A yes of F1 and F2 on x is a yes on y with
 -- the same three bytes, and a coverage that F5 knows on x it knows on y, and is the same. For every mode, combiner, source and count, and for any bytes. F2 is what the
 -- bytes need: where it has no doubt, P is stored as it is over every coverage that the memory may have, or over none. Assumes nothing.
-use Prim.Native.Nat.{ℕ, _-_, _≤_}
+use Prim.Native.Nat.{ℕ, _≤_}
 use mathlib.Core.Path.{_≡_, refl, sym, ap, subst, _∙_}
 use mathlib.Core.Bool.{Bool, true, false, cond, not, _&&_, _||_}
 use native.Mathlib.Omega.{arith}
-use borrow.Author.Tests.{eqb-true, not-true}
-use lib.Dec.{eqb}
+use borrow.Author.Tests.{not-true}
 use Rattle.state.specs.declared.RenderMode.{RenderMode}
 use Rattle.state.specs.declared.Rgba.{Rgba}
 use Rattle.combiner.specs.declared.Combiner.{Combiner}
@@ -19,13 +18,13 @@ use Rattle.blender.specs.Known.{reject, alone}
 use Rattle.blender.specs.Blend.{orZero}
 use Rattle.blender.proofs.Knows.{Less, less-zero, known-more, known-all, blend-same}
 use Rattle.blender.proofs.Range.{destination-le}
-use Rattle.blender.proofs.Settled.{settled-full, settled-own}
 use Rattle.frame_pixel.specs.declared.Pixel.{Pixel}
 use Rattle.frame_pixel.specs.declared.Colors.{Colors}
 use Rattle.frame_pixel.specs.Marks.{colorMarked, coverageMarked, markOf}
 use Rattle.frame_pixel.specs.Rules.{ruleF1, ruleF2, memoryOf, ruleF3, ruleF4, freshCoverage, ruleF5, coverageAt, knownAfter, colorsAfter, coverageAfter, assembled, pixelStep}
 use Rattle.frame_pixel.specs.Knows.{KnowsPixel, AllKnownPixel, consoleStep}
 use Rattle.num_float.proofs.Tests.{never, both-left, both-right}
+use Rattle.frame_pixel.proofs.Eight.{fresh-same}
 use Rattle.frame_pixel.proofs.Alike.{color-after, covered-after, colors-after}
 
 -- ---- what is known of two coverages, by their marks and bytes
@@ -44,29 +43,17 @@ less-self (Known c) = Less.same
 
 -- ---- F5
 rule-less : (mode : RenderMode) (n : ℕ) {c d : Coverage} → Less c d → Less (ruleF5 mode n c) (ruleF5 mode n d)
-unfolding ruleF5 freshCoverage
+unfolding ruleF5
 rule-less mode n Less.same = Less.same
 rule-less mode n (Less.none {d}) = go d
   where
-    k : ℕ
-    k = mode .«cvg_dst»
-
-    known : (v : ℕ) {d : ℕ} → d ≡ v → Less (Known v) (Known d)
-    known v e = subst (λ (d : ℕ). Less (Known v) (Known d)) (sym e) Less.same
-
-    own : (z f a : Bool) → eqb k 0 ≡ z → mode .«force_blend» ≡ f → mode .antialias ≡ a → (c : ℕ) → Less (cond (z && not f && not a) (Known (n - 1)) Unknown) (Known (destinationOf mode n c))
-    own false f a e p q c = Less.none
-    own true true a e p q c = Less.none
-    own true false true e p q c = Less.none
-    own true false false e p q c = known (n - 1) (settled-own mode n c (eqb-true k 0 e) p q)
-
-    full : (two : Bool) → eqb k 2 ≡ two → (c : ℕ) → Less (cond two (Known 7) (cond (eqb k 0 && not (mode .«force_blend») && not (mode .antialias)) (Known (n - 1)) Unknown)) (Known (destinationOf mode n c))
-    full true e c = known 7 (settled-full mode n c (eqb-true k 2 e))
-    full false e c = own (eqb k 0) (mode .«force_blend») (mode .antialias) refl refl refl c
+    same : (c : ℕ) (f : Coverage) → freshCoverage mode n ≡ f → Less f (Known (destinationOf mode n c))
+    same c Unknown e = Less.none
+    same c (Known v) e = subst (λ (k : ℕ). Less (Known v) (Known k)) (sym (fresh-same mode n v e c)) Less.same
 
     go : (d : Coverage) → Less (freshCoverage mode n) (ruleF5 mode n d)
     go Unknown = less-self (freshCoverage mode n)
-    go (Known c) = full (eqb k 2) refl c
+    go (Known c) = same c (freshCoverage mode n) refl
 
 -- what F5 makes known is what `destination` answers over some coverage, and so has three bits
 rule-le : (mode : RenderMode) (n : ℕ) (c : Coverage) → 1 ≤ n → n ≤ 8 → orZero c ≤ 7 → orZero (ruleF5 mode n c) ≤ 7

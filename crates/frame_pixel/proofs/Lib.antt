@@ -1,4 +1,5 @@
--- The proofs of crate `frame_pixel` that other crates cite.
+-- What several proofs of crate `frame_pixel` share, and the laws that other crates cite.
+pub mod Eight
 pub mod Alike
 pub mod Knows
 pub mod Certain

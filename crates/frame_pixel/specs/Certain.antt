@@ -2,16 +2,14 @@
 -- What is known is true.
 use Prim.Native.Nat.{ℕ, _≤_}
 use mathlib.Core.Path.{_≡_}
-use mathlib.Core.Bool.{Bool, _&&_}
 use Rattle.state.specs.declared.RenderMode.{RenderMode}
 use Rattle.combiner.specs.declared.Combiner.{Combiner}
 use Rattle.blender.specs.declared.Coverage.the-variants.{Known}
 use Rattle.blender.specs.declared.Source.{Source}
-use Rattle.blender.specs.Settled.{settled}
 use Rattle.frame_pixel.specs.declared.Pixel.{Pixel}
 use Rattle.frame_pixel.specs.declared.Colors.{Colors}
-use Rattle.frame_pixel.specs.Marks.{colorMarked, unknown}
-use Rattle.frame_pixel.specs.Rules.{memoryOf, ruleF3, freshCoverage, coverageAfter, colorsAfter}
+use Rattle.frame_pixel.specs.Marks.{colorMarked}
+use Rattle.frame_pixel.specs.Rules.{memoryOf, ruleF3, coverageAfter, colorsAfter}
 use Rattle.frame_pixel.specs.Knows.{KnowsPixel, AllKnownPixel}
 
 -- what pixel x may really be: everything is known of y, and what is known of x is the same there
@@ -27,10 +25,6 @@ CertainColors mode k s x colors = (y : Pixel) → Completes y x → colorsAfter 
 -- and so is the coverage
 abbrev pub CertainCoverage : RenderMode → Source → Pixel → ℕ → Type 0
 CertainCoverage mode s x c = (y : Pixel) → Completes y x → coverageAfter mode s y ≡ Known c
-
--- where F5 leaves a coverage unknown that is certain: `destination` gives one number for every memory coverage, and F5 does not store it
-unfoldable pub coverageGivenUp : RenderMode → ℕ → Bool
-coverageGivenUp mode n = settled mode n && unknown (freshCoverage mode n)
 
 -- F3's colours over this memory coverage
 abbrev pub colorsOver : RenderMode → Combiner → Source → Pixel → ℕ → Colors

@@ -13,7 +13,7 @@ use Rattle.blender.specs.Layer.{layeredOf, steadyOf, layerOf, opaqueOf}
 use Rattle.frame_pixel.specs.declared.Pixel.{Pixel}
 use Rattle.frame_pixel.specs.declared.Colors.{Colors}
 use Rattle.frame_pixel.specs.declared.full.Full.{Full}
-use Rattle.frame_pixel.specs.Marks.{colorMarked, coverageMarked}
+use Rattle.frame_pixel.specs.Marks.{colorMarked, coverageMarked, markOf}
 use Rattle.frame_pixel.specs.Rules.{ruleF4, ruleF5, coverageAt, assembled}
 use Rattle.frame_pixel.specs.Coloring.{ownColors, overColors}
 
@@ -28,9 +28,9 @@ pub record FullOf (mode : RenderMode) (k : Combiner) (color : Rgba) (full : Full
   pub own : full .own ≡ ownColors mode k color
   pub layer : full .layer ≡ layerOf mode k color
   pub sure : full .sure ≡ opaqueOf mode (color .a)
-  -- what F5 makes of a coverage that is known, and of one that is not
-  pub fills : full .fills ≡ isFull (ruleF5 mode 8 (Known 0))
-  pub settles : full .settles ≡ isFull (ruleF5 mode 8 Unknown)
+  -- F5 makes 7 of a coverage that is not known; then it makes 7 of every other, too, and else it leaves every one
+  pub fills : full .fills ≡ isFull (ruleF5 mode 8 Unknown)
+  pub sets : full .sets ≡ markOf false (full .fills)
 
 -- that is enough for a full pixel: it is layered, or it is of its own colour wherever the coverage is known
 abbrev pub Enough : RenderMode → Full → Type 0
@@ -43,13 +43,12 @@ fullKnown full x = cond (full .layered) (colorMarked (x .mark)) (full .sure || c
 abbrev pub fullColors : Full → Pixel → Colors
 fullColors full x = cond (full .layered) (overColors (full .layer) (ruleF4 x)) (full .own)
 
-abbrev pub fullCoverage : Bool → Bool → Coverage → Coverage
-fullCoverage fills settles Unknown = cond settles (Known 7) Unknown
-fullCoverage fills settles (Known c) = Known (cond fills 7 c)
+abbrev pub fullCoverage : Bool → Coverage → Coverage
+fullCoverage fills coverage = cond fills (Known 7) coverage
 
 -- a full pixel whose colours are stored where they are known
-unfoldable pub fullWith : Bool → Bool → Bool → Colors → Pixel → Pixel
-fullWith known fills settles new x = assembled known (cond known new (ruleF4 x)) (fullCoverage fills settles (coverageAt x)) (x .coverage)
+unfoldable pub fullWith : Bool → Bool → Colors → Pixel → Pixel
+fullWith known fills new x = assembled known (cond known new (ruleF4 x)) (fullCoverage fills (coverageAt x)) (x .coverage)
 
 unfoldable pub fullStep : Full → Pixel → Pixel
-fullStep full x = fullWith (fullKnown full x) (full .fills) (full .settles) (fullColors full x) x
+fullStep full x = fullWith (fullKnown full x) (full .fills) (fullColors full x) x

@@ -1,6 +1,6 @@
 -- To be believed. Rules F1 to F5 (docs/RULES.md): what one emitted pixel does to the five bytes of its place in the frame, all on the old bytes.
 -- Definitions only. F1, F3 and F5 rest on `color_known`, `blend` and `destination` of the Rust, whose definitions are crate blender's.
-use Prim.Native.Nat.{ℕ, _-_}
+use Prim.Native.Nat.{ℕ}
 use mathlib.Core.Bool.{Bool, cond, not, _&&_}
 use lib.IntN.{pos}
 use lib.Dec.{eqb}
@@ -48,11 +48,15 @@ ruleF3 mode k s coverage memory =
 abbrev pub ruleF4 : Pixel → Colors
 ruleF4 x = record { red = x .red; green = x .green; blue = x .blue }
 
--- F5, an unmarked coverage: 7 if cvg_dst is 2, count - 1 if cvg_dst is 0 with force_blend and antialias both off, else unmarked still
+-- a question asked of each memory coverage 0 to 7
+abbrev pub allEight : (ℕ → Bool) → Bool
+allEight asked = asked 0 && asked 1 && asked 2 && asked 3 && asked 4 && asked 5 && asked 6 && asked 7
+
+-- F5, an unmarked coverage: known exactly if `destination` gives one number for all eight memory coverages 0 to 7, and then that number; else unmarked still
 unfoldable pub freshCoverage : RenderMode → ℕ → Coverage
 freshCoverage mode n =
-    cond (eqb (mode .«cvg_dst») 2) (Known 7)
-    (cond (eqb (mode .«cvg_dst») 0 && not (mode .«force_blend») && not (mode .antialias)) (Known (n - 1)) Unknown)
+    let number = destinationOf mode n 0 in
+    cond (allEight (λ c. eqb (destinationOf mode n c) number)) (Known number) Unknown
 
 -- F5: a marked coverage becomes `destination`'s answer
 unfoldable pub ruleF5 : RenderMode → ℕ → Coverage → Coverage

@@ -1,7 +1,6 @@
-// Pixels with all eight samples, of one colour that is worked out ahead. What rule F5 does to their coverage is asked of it once: it makes every known one 7
-// or leaves it, and an unknown one likewise.
+// Pixels with all eight samples, of one colour that is worked out ahead. What rule F5 does to their coverage is asked of it once: it makes every one 7, known
+// before or not, or leaves every one.
 ghost use mathlib.Core.Path.{_≡_};
-ghost use mathlib.Core.Bool.{cond};
 ghost use Prim.Native.Nat.{_≤_};
 ghost use Rattle.blender.specs.Blend.{orZero};
 ghost use Rattle.blender.specs.Layer.{layeredOf, layerOf, opaqueOf};
@@ -27,8 +26,8 @@ pub struct Full {
     pub own: Colors, // its bytes if not
     pub layer: Layer, // the layer if so
     pub sure: bool, // its bytes are known over an unknown coverage too
-    pub fills: bool, // F5 makes a known coverage 7, and else leaves it
-    pub settles: bool, // F5 makes an unknown coverage 7, and else leaves it
+    pub fills: bool, // F5 makes their coverage 7, known before or not, and else leaves it
+    pub sets: u8, // the marks that they set whatever stood there: mark 2 if F5 makes their coverage 7
 }
 
 fn is_full(coverage: Coverage) -> bool
@@ -48,26 +47,15 @@ pub fn full_of(mode: RenderMode, combiner: Combiner, color: Rgba) -> Full
     let own = crate::own_colors(mode, combiner, color);
     let layer = blender::layer::layer_of(mode, combiner, color);
     let sure = blender::opaque(mode, color.a);
-    let known = next_coverage(mode, ALL, Coverage::Known(0));
-    let fills = is_full(known);
-    let unknown = next_coverage(mode, ALL, Coverage::Unknown);
-    let settles = is_full(unknown);
+    let coverage = next_coverage(mode, ALL, Coverage::Unknown);
+    let fills = is_full(coverage);
+    let sets = crate::mark_of(false, fills);
     Full {
         layered,
         own,
         layer,
         sure,
         fills,
-        settles,
+        sets,
     }
-}
-
-// Whether 7 is stored, of a coverage that is known or not.
-pub fn stores_full(covered: bool, fills: bool, settles: bool) -> bool
-    ensures { λ r. ⌜ r ≡ cond covered fills settles ⌝ }
-{
-    if covered {
-        return fills;
-    }
-    settles
 }

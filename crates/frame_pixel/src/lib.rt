@@ -5,6 +5,7 @@ ghost use mathlib.Core.Bool.{false, cond};
 ghost use Prim.Native.Nat.{_≤_};
 ghost use Rattle.blender.specs.Blend.{orZero};
 ghost use Rattle.blender.specs.Joined.{isKnown, orZeros};
+ghost use Rattle.blender.specs.Settled.{fullFrom, settledClamp};
 ghost use Rattle.frame_pixel.specs.Marks.{colorMarked, coverageMarked, coverageOf, unknown, markOf};
 ghost use Rattle.frame_pixel.specs.Rules.{ruleF2, unit, memoryOf, ruleF4, freshCoverage, ruleF5, coverageByte, coverageAt, assembled, pixelStep};
 ghost use Rattle.frame_pixel.specs.Coloring.{ownColors, overByte, overColors, ColoringOf, coloredOf};
@@ -272,25 +273,43 @@ fn color_after(
     }
 }
 
-// F5, an unmarked coverage.
-fn fresh(mode: RenderMode, count: u8) -> Coverage
+// 7 from this many samples on.
+fn full_from(least: u8, count: u8) -> Coverage
+    ensures { λ r. ⌜ r ≡ fullFrom least count ⌝ }
+{
+    if count >= least {
+        return Coverage::Known(7);
+    }
+    Coverage::Unknown
+}
+
+// What memory keeps with cvg_dst 0 whatever it had, if that is one number.
+fn fresh_clamp(mode: RenderMode, count: u8) -> Coverage
     requires { ⌜ 1 ≤ count ⌝ }
+    ensures { λ r. ⌜ r ≡ settledClamp (mode .«force_blend») (mode .antialias) count ⌝ }
+{
+    // Forced, seven samples or more and any memory coverage are cut at 7.
+    if mode.force_blend {
+        return full_from(7, count);
+    }
+    // All eight samples overflow over any memory coverage and are stored as they are; fewer may blend.
+    if mode.antialias {
+        return full_from(8, count);
+    }
+    Coverage::Known(count - 1)
+}
+
+// F5, an unmarked coverage: the one number that `destination` gives for all eight memory coverages, without asking it of each.
+fn fresh(mode: RenderMode, count: u8) -> Coverage
+    requires { ⌜ (1 ≤ count) × (count ≤ 8) ⌝ }
     ensures { λ r. ⌜ r ≡ freshCoverage mode count ⌝ }
 {
     let dst = mode.cvg_dst;
-    if dst == 2 {
-        return Coverage::Known(7);
+    match dst {
+        0 => fresh_clamp(mode, count),
+        2 => Coverage::Known(7),
+        _ => Coverage::Unknown,
     }
-    if dst != 0 {
-        return Coverage::Unknown;
-    }
-    if mode.force_blend {
-        return Coverage::Unknown;
-    }
-    if mode.antialias {
-        return Coverage::Unknown;
-    }
-    Coverage::Known(count - 1)
 }
 
 // F5.

@@ -1,41 +1,49 @@
--- `frame_pixel::fresh` meets its contract: each test in turn. Assumes nothing.
-use Prim.Native.Nat.{_-_}
-use mathlib.Core.Path.{sym}
-use mathlib.Core.Bool.{cond, not, _&&_}
+-- `frame_pixel::fresh` meets its contract: the arm that is taken is the closed form's, which is what the eight questions say (`fresh-settled`). Assumes nothing.
+use Prim.Native.Nat.{ℕ}
+use mathlib.Core.Path.{_≡_, refl, sym, ap, _∙_}
+use mathlib.Core.Bool.{Bool, true, false, cond}
 use borrow.Author.Needs.{needs}
-use Rattle.blender.specs.declared.Coverage.the-variants.{Known, Unknown}
-use borrow.Author.Tests.{eq-eqb, ne-eqb}
+use borrow.Author.Tests.{ne-eqb}
+use lib.Dec.{eqb}
+use Rattle.blender.specs.declared.Coverage.{Coverage}
+use Rattle.blender.specs.declared.Coverage.the-variants.{Unknown, Known}
+use Rattle.blender.specs.Mux.{pick}
+use Rattle.blender.specs.Settled.{settledClamp, settledOf}
 use Rattle.frame_pixel.specs.Rules.{freshCoverage}
+use Rattle.frame_pixel.proofs.Eight.{fresh-settled}
 use Rattle.frame_pixel.proofs.fresh.Statement.{statement}
 use Rattle.frame_pixel.proofs.fresh.Tie as tie
 
+-- the closed form at each number of cvg_dst
+at : tie.Start → ℕ → Coverage
+at s k = pick k (settledClamp (s .args .mode .«force_blend») (s .args .mode .antialias) (s .args .count)) Unknown (Known 7) Unknown
+
+arm : (s : tie.Start) {r : Coverage} → r ≡ at s (s .args .mode .«cvg_dst») → r ≡ freshCoverage (s .args .mode) (s .args .count)
+unfolding at settledOf
+arm s e = e ∙ sym (fresh-settled (s .args .mode) (s .args .count) (s .pre .0) (s .pre .1))
+
+-- neither clamp nor full
+rest : (k : ℕ) (clamp : Coverage) → (k ≡ 0 → ⊥) → (k ≡ 2 → ⊥) → Unknown ≡ pick k clamp Unknown (Known 7) Unknown
+rest k clamp z f = sym ((λ i. cond (ne-eqb k 0 z i) clamp (cond (eqb k 1) Unknown (cond (ne-eqb k 2 f i) (Known 7) Unknown))) ∙ go (eqb k 1))
+  where
+    go : (b : Bool) → cond b Unknown Unknown ≡ Unknown
+    go true = refl
+    go false = refl
+
+fresh-clamp-requires : tie.Need-fresh-clamp-requires
+fresh-clamp-requires c κs = search needs
+
 returns : tie.Need-returns
-unfolding freshCoverage
-returns c = simp (eq-eqb _ _ (c .if1 .taken))
+unfolding at
+returns c = let s = c .before .before in arm s (c .fresh-clamp .ensures ∙ ap (at s) (sym (c .before .match .keys1)))
 
 returns-2 : tie.Need-returns-2
-unfolding freshCoverage
-returns-2 c = simp (ne-eqb _ _ (c .before .if1 .left), ne-eqb _ _ (c .if2 .taken))
+unfolding at
+returns-2 c = let s = c .before in arm s (ap (at s) (sym (c .match .keys2)))
 
 returns-3 : tie.Need-returns-3
-unfolding freshCoverage
-returns-3 c = simp (ne-eqb _ _ (c .before .before .if1 .left), eq-eqb _ _ (c .before .if2 .left), c .if3 .taken)
-
-returns-4 : tie.Need-returns-4
-unfolding freshCoverage
-returns-4 c =
-    simp (ne-eqb _ _ (c .before .before .before .if1 .left), eq-eqb _ _ (c .before .before .if2 .left), c .before .if3 .left, c .if4 .taken)
-
-sub-t5 : tie.Need-sub-t5
-sub-t5 c = search needs
-
-returns-5 : tie.Need-returns-5
-unfolding freshCoverage
-returns-5 c =
-    let a = c .before .before .before .before .args in
-    let e2 = ne-eqb (a .mode .«cvg_dst») 2 (c .before .before .before .if1 .left) in
-    let e0 = eq-eqb (a .mode .«cvg_dst») 0 (c .before .before .if2 .left) in
-    λ i. cond (sym e2 i) (Known 7) (cond (sym e0 i && not (sym (c .before .if3 .left) i) && not (sym (c .if4 .left) i)) (Known (a .count - 1)) Unknown)
+unfolding at
+returns-3 c = let s = c .before in arm s (rest _ _ (c .match .rest .0 .1) (c .match .rest .1))
 
 pub fresh-spec : {M : Type 1} → statement M
-fresh-spec = tie.close (tie.spec returns returns-2 returns-3 returns-4 sub-t5 returns-5)
+fresh-spec = tie.close (tie.spec fresh-clamp-requires returns returns-2 returns-3)

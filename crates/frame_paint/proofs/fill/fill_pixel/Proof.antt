@@ -18,9 +18,6 @@ full-known-requires c κs = search needs
 full-colors-requires : tie.Need-full-colors-requires
 full-colors-requires c κs = search needs
 
-stores-full-requires : tie.Need-stores-full-requires
-stores-full-requires c κs = search needs
-
 mark-of-requires : tie.Need-mark-of-requires
 mark-of-requires c κs = search needs
 
@@ -39,12 +36,13 @@ same-length-3 c = search needs
 returns : tie.Need-returns
 returns c =
     let st = c .before .before .before .before .before .before in
-    let mk = st .before .before .before .before in
-    let fc = mk .before .before .before in
+    let mk = st .before .before .before .before .before in
+    let fc = mk .before in
     let fk = fc .before .before .before in
     let s = fk .before .before .before .before .before .before in
     let a = s .args in
-    filled (a .full) (frameOf (now (a .colors)) (now (a .coverages)) (now (a .marks))) (a .pixel) (s .pre .0) (s .pre .1) (fk .before .coverage-marked .ensures) (fk .full-known .ensures) (fc .full-colors .ensures) (mk .before .before .stores-full .ensures) (mk .mark-of .ensures) (st .store .ensures)
+    filled (a .full) (frameOf (now (a .colors)) (now (a .coverages)) (now (a .marks))) (a .pixel) (s .pre .0) (s .pre .1 .0)
+    (fk .before .coverage-marked .ensures) (fk .full-known .ensures) (fc .full-colors .ensures) (s .pre .1 .1) (mk .mark-of .ensures) (st .store .ensures)
 
 pub fill-pixel-spec : {M : Type 1} → statement M
 fill-pixel-spec =
@@ -54,7 +52,6 @@ fill-pixel-spec =
     coverage-marked-requires
     full-known-requires
     full-colors-requires
-    stores-full-requires
     mark-of-requires
     store-requires
     same-length

@@ -67,7 +67,7 @@ fill-pixel-requires c κs =
     let w = s .args .width in
     let y = s .args .y in
     let room : (y + 1) * w ≡ y * w + w = rw add-one (suc-mul y w) in
-    (omega (arith, c .before .before .before .loop-test .taken, s .pre .0 .1, s .pre .1 .there, d .fit .marks, room), long-now (d .fit))
+    (omega (arith, c .before .before .before .loop-test .taken, s .pre .0 .1, s .pre .1 .there, d .fit .marks, room), (long-now (d .fit), s .pre .0 .2 .full .sets))
 
 add-pixel : tie.Need-add-pixel Inv-loop μ-loop
 add-pixel c = omega (arith, c .before .before .before .before .before .before .before .before .before .before .loop-test .taken)

@@ -1,6 +1,5 @@
 -- `full_of` meets its contract: each part from the answer that it is made of. Assumes nothing.
 use mathlib.Core.Path.{ap, _∙_}
-use native.Mathlib.Omega.{arith}
 use borrow.Author.Needs.{needs}
 use Rattle.frame_pixel.specs.Full.{isFull}
 use Rattle.frame_pixel.proofs.full.full_of.Statement.{statement}
@@ -24,23 +23,20 @@ next-coverage-requires c κs = search needs
 is-full-requires : tie.Need-is-full-requires
 is-full-requires c κs = search needs
 
-next-coverage-requires-2 : tie.Need-next-coverage-requires-2
-next-coverage-requires-2 c κs = search needs
-
-is-full-requires-2 : tie.Need-is-full-requires-2
-is-full-requires-2 c κs = search needs
+mark-of-requires : tie.Need-mark-of-requires
+mark-of-requires c κs = search needs
 
 returns : tie.Need-returns
 returns c =
-    let n = c .before in
-    let k = n .before .before in
+    let n = c .before .before in
+    let k = n .before in
     record {
-      layered = k .before .before .before .before .layered .ensures;
-      own = k .before .before .before .own-colors .ensures;
-      layer = k .before .before .layer-of .ensures;
-      sure = k .before .opaque .ensures;
-      fills = n .before .is-full .ensures ∙ ap isFull (k .next-coverage .ensures);
-      settles = c .is-full2 .ensures ∙ ap isFull (n .next-coverage2 .ensures);
+      layered = k .before .before .before .layered .ensures;
+      own = k .before .before .own-colors .ensures;
+      layer = k .before .layer-of .ensures;
+      sure = k .opaque .ensures;
+      fills = c .before .is-full .ensures ∙ ap isFull (n .next-coverage .ensures);
+      sets = c .mark-of .ensures;
     }
 
 pub full-of-spec : {M : Type 1} → statement M
@@ -53,6 +49,5 @@ full-of-spec =
     opaque-requires
     next-coverage-requires
     is-full-requires
-    next-coverage-requires-2
-    is-full-requires-2
+    mark-of-requires
     returns)
