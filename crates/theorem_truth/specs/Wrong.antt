@@ -12,6 +12,7 @@ use Rattle.combiner.specs.declared.Combiner.{Combiner}
 use Rattle.blender.specs.declared.Coverage.{Coverage}
 use Rattle.blender.specs.declared.Coverage.the-variants.{Unknown, Known}
 use Rattle.blender.specs.declared.Source.{Source}
+use Rattle.blender.specs.Coverage.{destinationOf}
 use Rattle.frame_pixel.specs.declared.Pixel.{Pixel}
 use Rattle.frame_pixel.specs.Marks.{colorMarked, markOf}
 use Rattle.frame_pixel.specs.Rules.{ruleF1, ruleF2, memoryOf, ruleF3, ruleF4, ruleF5, coverageByte, coverageAt, knownAfter, colorsAfter, coverageAfter, assembled}
@@ -45,6 +46,17 @@ countStored mode n Unknown = cond (eqb (mode .«cvg_dst») 0 && not (mode .«for
 unfoldable pub countUnderAntialias : RenderMode → Combiner → Source → Pixel → Pixel
 countUnderAntialias mode k s x = assembled (knownAfter mode s x) (colorsAfter mode k s x) (countStored mode (s .count) (coverageAt x)) (x .coverage)
 
+-- F5 with `destination` asked of memory coverages 1 to 7 alone
+abbrev pub sevenAsked : RenderMode → ℕ → Coverage → Coverage
+sevenAsked mode n (Known c) = ruleF5 mode n (Known c)
+sevenAsked mode n Unknown =
+    let number = destinationOf mode n 1 in
+    let asked : ℕ → Bool = λ c. eqb (destinationOf mode n c) number in
+    cond (asked 1 && asked 2 && asked 3 && asked 4 && asked 5 && asked 6 && asked 7) (Known number) Unknown
+
+unfoldable pub withoutZero : RenderMode → Combiner → Source → Pixel → Pixel
+withoutZero mode k s x = assembled (knownAfter mode s x) (colorsAfter mode k s x) (sevenAsked mode (s .count) (coverageAt x)) (x .coverage)
+
 -- mark 2 set where F5 leaves the coverage unknown too, on the byte that stands there
 unfoldable pub markAlone : RenderMode → Combiner → Source → Pixel → Pixel
 markAlone mode k s x =
@@ -63,9 +75,9 @@ markAlone mode k s x =
 abbrev pub fog : Combiner
 fog = record { selectors = cycle1 0 0; prim = grey f0; env = grey f0; blend = grey f0; fog = record { r = f0; g = f0; b = f0; a = fin false 1 (pos 30) }; lod = f0 }
 
--- a white pixel with one sample
-abbrev pub white : Source
-white = record { color = grey f1; «shade_alpha» = f1; count = 1 }
+-- a white pixel with n samples
+abbrev pub white : ℕ → Source
+white n = record { color = grey f1; «shade_alpha» = f1; count = n }
 
 -- antialias, P and M the pixel's colour, A fog's alpha and B 1 - A
 abbrev pub fogged : RenderMode
@@ -96,6 +108,6 @@ colorKnown = record { red = 0; green = 0; blue = 0; coverage = 0; mark = 1 }
 abbrev pub allKnown : ℕ → ℕ → Pixel
 allKnown red coverage = record { red = red; green = 0; blue = 0; coverage = coverage; mark = 3 }
 
--- y knows at least what x knows, and after the wrong step it does not
-abbrev pub Breaks : (RenderMode → Combiner → Source → Pixel → Pixel) → RenderMode → Pixel → Pixel → Type 0
-Breaks step mode y x = KnowsPixel y x × (KnowsPixel (step mode fog white y) (step mode fog white x) → ⊥)
+-- y knows at least what x knows, and after the wrong step, of n samples, it does not
+abbrev pub Breaks : (RenderMode → Combiner → Source → Pixel → Pixel) → RenderMode → ℕ → Pixel → Pixel → Type 0
+Breaks step mode n y x = KnowsPixel y x × (KnowsPixel (step mode fog (white n) y) (step mode fog (white n) x) → ⊥)
