@@ -13,6 +13,6 @@ export RUST_SRC
 cargo build --release --offline --quiet
 target/release/oracle "$@"
 if [ $# = 0 ]; then
-  # The player's crate, its sample and the recorded samples beside the original; planted errors, and which coverages are certain.
+  # The player's crate, its sample and the recorded samples beside the original; planted errors, and every case of an unknown coverage.
   cargo test --release --offline --quiet
 fi

@@ -6,7 +6,7 @@ use crate::compare::{added, Line, Part};
 use crate::compare_known::{known_frame, two_runs, Call, Held, KnownFrame};
 use crate::draws::{Frame, Step};
 use crate::engines::{all_handed, handed_counts, Calls, Handed, Library};
-use crate::frame::Branches;
+use crate::frame::{Branches, FULL, PARTIAL, RUN, UNMARKED, UNMARKED_FULL};
 use crate::given_up::GivenUp;
 use crate::inputs::Inputs;
 use crate::lists::{is_long, Class, List};
@@ -179,10 +179,10 @@ fn both(a: Branches, b: Branches) -> Branches {
     Branches {
         colors: [0, 1].map(|marked| added(a.colors[marked], b.colors[marked])),
         destinations: [0, 1].map(|marked| added(a.destinations[marked], b.destinations[marked])),
-        marked: a.marked + b.marked,
-        left: a.left + b.left,
+        unmarked: [PARTIAL, FULL, RUN].map(|fullness| added(a.unmarked[fullness], b.unmarked[fullness])),
         memory_colors: a.memory_colors + b.memory_colors,
         divided: a.divided + b.divided,
+        last_full: None,
     }
 }
 
@@ -222,7 +222,7 @@ impl Counts {
     pub fn lines(&self) -> Vec<Line> {
         let answers = ["no", "in doubt", "yes"];
         let ways = ["with cvg_dst 0", "1", "2", "3", "above"];
-        let Branches { colors, destinations, marked, left, memory_colors, divided } = self.branches;
+        let Branches { colors, destinations, unmarked, memory_colors, divided, .. } = self.branches;
         let mut lines = vec![
             ("lists", named(["compared", "pixels", LONG], [self.lists, self.pixels, self.long])),
             ("draw", numbers(&self.draws, &[0, 1, 2, 3, 4, 5, 6, 7])),
@@ -234,7 +234,11 @@ impl Counts {
             ("F3", named(["that take a marked colour in", "divided by A + B"], [memory_colors, divided])),
             ("F5, coverage marked", named(ways, destinations[1])),
             ("F5, coverage unmarked", named(ways, destinations[0])),
-            ("F5, coverage unmarked", named(["became marked", "left"], [marked, left])),
+            ("F5, coverage unmarked", named(UNMARKED, unmarked.into_iter().fold([0; 8], added))),
+            (
+                "F5, coverage unmarked, in runs of full pixels",
+                named(UNMARKED_FULL.map(|case| UNMARKED[case]), UNMARKED_FULL.map(|case| unmarked[RUN][case])),
+            ),
         ];
         lines.extend(self.engine_lines());
         lines.extend(self.given_up.lines());

@@ -12,19 +12,39 @@ pub const NO: usize = 0;
 pub const DOUBT: usize = 1;
 pub const YES: usize = 2;
 
-/// How often a pixel went each way. The first index says whether the coverage was marked.
+/// How often a pixel went each way. The first index of `colors` and `destinations` says whether the coverage was
+/// marked.
 #[derive(Clone, Default)]
 pub struct Branches {
     /// F1 to F4: NO, DOUBT or YES.
     pub colors: [[u64; 3]; 2],
     /// F5: cvg_dst 0 to 3, then the ones above.
     pub destinations: [[u64; 5]; 2],
-    /// F5: an unmarked coverage that became marked, and one that did not.
-    pub marked: u64,
-    pub left: u64,
+    /// F5 over an unmarked coverage: PARTIAL, FULL or RUN, and the case of `unmarked`.
+    pub unmarked: [[u64; 8]; 3],
     /// F3: pixels that take a marked colour in, and pixels blended because of their marked coverage.
     pub memory_colors: u64,
     pub divided: u64,
+    /// The last pixel and its colour, if it had all samples.
+    pub last_full: Option<(usize, [u32; 4])>,
+}
+
+/// Whether a pixel has all samples; and whether its left neighbour, which came just before, had them in the same
+/// colour, so that the fast engine may paint both in one go. The first of a run is FULL.
+pub const PARTIAL: usize = 0;
+pub const FULL: usize = 1;
+pub const RUN: usize = 2;
+
+impl Branches {
+    fn fullness(&mut self, width: usize, pixel: usize, emitted: &Emitted) -> usize {
+        let full = (emitted.count == 8).then_some((pixel, emitted.rgba.map(f32::to_bits)));
+        let before = std::mem::replace(&mut self.last_full, full);
+        match full {
+            None => PARTIAL,
+            _ if !pixel.is_multiple_of(width) && full == before.map(|(pixel, color)| (pixel + 1, color)) => RUN,
+            _ => FULL,
+        }
+    }
 }
 
 fn known_color(mark: u8) -> bool {
@@ -84,14 +104,45 @@ pub struct Emitted {
     pub shade_alpha: f32,
 }
 
-/// F5: the coverage if it is marked afterwards.
+/// F5: the coverage if it is marked afterwards. An unmarked one is if memory keeps one number, whichever of the eight
+/// it had.
 pub fn covered(mode: RenderMode, count: u8, coverage: Option<u8>) -> Option<u8> {
-    let RenderMode { cvg_dst, force_blend, antialias, .. } = mode;
+    let kept = |memory| writeback::destination(mode, count, memory);
     match coverage {
-        Some(coverage) => Some(writeback::destination(mode, count, coverage)),
-        None if cvg_dst == 2 => Some(7),
-        None if cvg_dst == 0 && !force_blend && !antialias => Some(count - 1),
-        None => None,
+        Some(coverage) => Some(kept(coverage)),
+        None => (0..8).all(|memory| kept(memory) == kept(0)).then_some(kept(0)),
+    }
+}
+
+/// The cases of F5 over an unmarked coverage: five that mark it, and three that leave it.
+pub const UNMARKED: [&str; 8] = [
+    "marked by cvg_dst 2",
+    "by cvg_dst 0 and neither flag",
+    "by eight samples and antialias alone",
+    "by eight samples and force_blend",
+    "by seven samples and force_blend",
+    "left with cvg_dst 0",
+    "left with 1",
+    "left with 3 and above",
+];
+
+/// Those of them that a pixel with all samples may be in, and those of one that has not all.
+pub const UNMARKED_FULL: [usize; 6] = [0, 1, 2, 3, 6, 7];
+pub const UNMARKED_PARTIAL: [usize; 6] = [0, 1, 4, 5, 6, 7];
+
+/// F5 over an unmarked coverage in closed form: the number of the case, and the coverage if it is marked afterwards. It
+/// is here to count the cases; given_up.rs holds it to the eight questions.
+pub fn unmarked(mode: RenderMode, count: u8) -> (usize, Option<u8>) {
+    let RenderMode { cvg_dst, force_blend, antialias, .. } = mode;
+    match cvg_dst {
+        2 => (0, Some(7)),
+        0 if !force_blend && !antialias => (1, Some(count - 1)),
+        0 if count == 8 && !force_blend => (2, Some(7)),
+        0 if count == 8 => (3, Some(7)),
+        0 if count == 7 && force_blend => (4, Some(7)),
+        0 => (5, None),
+        1 => (6, None),
+        _ => (7, None),
     }
 }
 
@@ -142,22 +193,24 @@ impl Pen<'_> {
             frame.coverages[pixel] = covered;
         }
         frame.marks[pixel] = u8::from(answer == YES) + 2 * u8::from(covered.is_some());
-        self.count(branches, emitted, (memory, coverage, covered), answer);
+        let fullness = branches.fullness(frame.width as usize, pixel, emitted);
+        self.count(branches, emitted, (memory, coverage), answer, fullness);
     }
 
     fn count(
         &self,
         branches: &mut Branches,
         emitted: &Emitted,
-        (memory, coverage, covered): (Option<[u8; 3]>, Option<u8>, Option<u8>),
+        (memory, coverage): (Option<[u8; 3]>, Option<u8>),
         answer: usize,
+        fullness: usize,
     ) {
         let marked = usize::from(coverage.is_some());
         branches.colors[marked][answer] += 1;
         branches.destinations[marked][usize::from(self.mode.cvg_dst).min(4)] += 1;
         if coverage.is_none() {
-            branches.marked += u64::from(covered.is_some());
-            branches.left += u64::from(covered.is_none());
+            let (case, _) = unmarked(self.mode, emitted.count);
+            branches.unmarked[fullness][case] += 1;
         }
         let [p, a, m, b] = self.selectors();
         let opaque = a == 0 && b == 0 && emitted.rgba[3] >= 1.0;
@@ -172,6 +225,7 @@ impl Pen<'_> {
 }
 
 pub fn draw(frame: &mut Frame, draw: &Draw, branches: &mut Branches) -> DrawAnswer {
+    branches.last_full = None;
     draw_with(frame, draw, |pen, frame, pixel, emitted| pen.put(frame, pixel, emitted, branches))
 }
 

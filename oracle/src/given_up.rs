@@ -1,11 +1,9 @@
-//! What F1, F2 and F5 give up: colours and coverages that they leave unknown although the original gives the same, whatever
-//! the unknown part of memory holds.
+//! What F1 and F2 give up: colours that they leave unknown although the original gives the same, whatever the unknown
+//! part of memory holds. F5 must give up nothing.
 
 use crate::compare::{added, Line};
 use crate::draws::Frame;
-use crate::frame::{covered, Emitted, Pen, DOUBT, YES};
-use original::writeback;
-use original::RenderMode;
+use crate::frame::{covered, unmarked, Emitted, Pen, DOUBT, YES};
 
 /// Why a pixel's colour is left unknown: F2, and the reasons of F1.
 const REASONS: [&str; 4] = ["given up in doubt", "given up for P", "given up for M", "given up for the coverage"];
@@ -19,7 +17,8 @@ const COUNTS: [&str; 3] = ["colours", "certain of them", "certain because never 
 pub struct GivenUp {
     /// By the number of the reason.
     pub colors: [[u64; 3]; 4],
-    pub coverages: [u64; 2],
+    /// Coverages that F5 leaves unmarked, of which none is certain.
+    pub coverages: u64,
     /// The first pixel that is certain where it should not be, or the other way round.
     pub wrong: Option<String>,
     /// What was last asked of a draw, and whether it is certain.
@@ -28,12 +27,6 @@ pub struct GivenUp {
 
 /// What a pixel's colour turns on beside its draw: the emitted count and floats by their bits, and memory.
 type Asked = (u8, [u32; 5], Option<[u8; 3]>, Option<u8>);
-
-/// Whether memory keeps the same coverage, whatever one it has.
-pub fn certain_coverage(mode: RenderMode, count: u8) -> bool {
-    let kept = |memory| writeback::destination(mode, count, memory);
-    (1..8).all(|memory| kept(memory) == kept(0))
-}
 
 /// What an unknown channel or coverage may be, those first that are the most apart.
 fn apart(last: u8) -> impl Iterator<Item = u8> {
@@ -89,12 +82,25 @@ impl GivenUp {
         }
     }
 
+    /// F5 over an unmarked coverage: it asks for all that memory may have, so that nothing that it leaves is certain. The
+    /// closed form must say the same.
+    fn count_coverage(&mut self, pen: &Pen, pixel: usize, count: u8) {
+        let after = covered(pen.mode, count, None);
+        let (_, closed) = unmarked(pen.mode, count);
+        self.coverages += u64::from(after.is_none());
+        if after != closed {
+            let said = format!(
+                "pixel {pixel}, {count} samples: the eight questions say {after:?}, the closed form {closed:?}"
+            );
+            self.wrong.get_or_insert(said);
+        }
+    }
+
     /// A pixel that is about to be put.
     pub fn count(&mut self, pen: &Pen, frame: &Frame, pixel: usize, emitted: &Emitted) {
         let (memory, coverage) = frame.known(pixel);
-        if covered(pen.mode, emitted.count, coverage).is_none() {
-            self.coverages[0] += 1;
-            self.coverages[1] += u64::from(certain_coverage(pen.mode, emitted.count));
+        if coverage.is_none() {
+            self.count_coverage(pen, pixel, emitted.count);
         }
         let answer = pen.answer(emitted, coverage, memory.is_some());
         if answer == YES {
@@ -123,7 +129,7 @@ impl GivenUp {
     pub fn both(self, other: Self) -> Self {
         GivenUp {
             colors: std::array::from_fn(|reason| added(self.colors[reason], other.colors[reason])),
-            coverages: added(self.coverages, other.coverages),
+            coverages: self.coverages + other.coverages,
             wrong: self.wrong.or(other.wrong),
             last: None,
         }
@@ -132,8 +138,7 @@ impl GivenUp {
     pub fn lines(&self) -> Vec<Line> {
         let counts = |counts: [u64; 3]| COUNTS.map(str::to_string).into_iter().zip(counts).collect();
         let colors = REASONS.into_iter().zip(self.colors.map(counts));
-        let [left, certain] = self.coverages;
-        let coverages = vec![("coverages".to_string(), left), (COUNTS[1].to_string(), certain)];
-        colors.chain([("given up by F5", coverages)]).collect()
+        let coverages = vec![("coverages, none of them certain".to_string(), self.coverages)];
+        colors.chain([("left by F5", coverages)]).collect()
     }
 }

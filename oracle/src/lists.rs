@@ -4,8 +4,8 @@ use crate::compare_combiner::{passing, usable};
 use crate::draws::{Draw, EmittedPixel, EmittedPixels, Frame, Read, Shape, Step};
 use crate::frame::EmittedList;
 use crate::inputs::Inputs;
-use crate::library::{Geometry, Mode, Scissor, Uniform};
-use crate::shapes::{any_shape, flawed, rectangle, triangles, TRIANGLES};
+use crate::library::{Geometry, Mode, Rgba, Scissor, Uniform};
+use crate::shapes::{any_shape, flawed, rectangle, triangles, RECTANGLE, TRIANGLES};
 
 pub struct List {
     pub frame: Frame,
@@ -206,6 +206,35 @@ fn uniform(inputs: &mut Inputs) -> Uniform {
     }
 }
 
+/// P is the pixel's colour and M the memory's, by the pixel's alpha.
+pub const OVER_MEMORY: u16 = 1 << 6;
+
+/// (0 - 0) * 0 + Primitive, for the colour and for the alpha.
+pub fn of_one_color(prim: Rgba) -> Uniform {
+    Uniform { combine_l: 0x0000_01ff, combine_h: 0x0ffc_00fb, prim, ..Uniform::default() }
+}
+
+/// A solid panel: a rectangle with sides at quarters of a pixel, or a triangle, of one opaque colour, so that the fast
+/// engine paints its full pixels in runs.
+fn panel(inputs: &mut Inputs, (width, height): (u32, u32)) -> Draw {
+    let any = inputs.mode();
+    let cvg_dst = if inputs.flag() { 0 } else { inputs.pick(&[1, 2, 3, any.cvg_dst]) };
+    let mode = passing(Mode { cvg_dst, blender_mux: OVER_MEMORY, ..any });
+    let prim = Rgba { r: inputs.plain(), g: inputs.plain(), b: inputs.plain(), a: 1.0 };
+    let scissor = Scissor { left: 0, top: 0, width, height };
+    let shape = if inputs.flag() {
+        Shape { cull: false, scissor, ..triangles(inputs, (width, height), 1) }
+    } else {
+        let mut sides = |size: u32| {
+            let [a, b] = [0; 2].map(|_| inputs.below(4 * size + 2) as f32 / 4.0);
+            [a.min(b), a.max(b)]
+        };
+        let ([left, right], [top, bottom]) = (sides(width), sides(height));
+        Shape { scissor, geometry: Geometry { kind: RECTANGLE, left, top, right, bottom }, ..Shape::default() }
+    };
+    Draw { mode, uniform: of_one_color(prim), shape }
+}
+
 fn draw(inputs: &mut Inputs, size: (u32, u32), class: Class) -> Draw {
     let mut shape = shape(inputs, size);
     let long = match class {
@@ -341,6 +370,26 @@ impl List {
         if inputs.below(5) == 0 {
             break_frame(inputs, &mut frame);
         }
+        List { frame, steps }
+    }
+
+    /// Two solid panels on a frame of which no coverage is known, to be written down, and behind each a word read of
+    /// one of its pixels, which gets a word exactly if the coverage is known then.
+    pub fn over_unknown(inputs: &mut Inputs) -> List {
+        let size = (2 + inputs.below(5), 1 + inputs.below(3));
+        let mut frame = frame(inputs, size);
+        frame.marks.iter_mut().for_each(|mark| *mark %= 2);
+        frame.coverages.fill_with(|| inputs.byte());
+        let step = |inputs: &mut Inputs| loop {
+            let draw = panel(inputs, size);
+            let list = EmittedList::of(&frame, &draw);
+            if !list.pixels().is_empty() {
+                let (pixel, _) = inputs.pick(list.pixels());
+                let read = Read { pixel: pixel as usize, fmt: 0, siz: 2, ..read(inputs, size) };
+                return [Step::Draw(Box::new(draw)), Step::Read(read)];
+            }
+        };
+        let steps = (0..2).flat_map(|_| step(inputs)).collect();
         List { frame, steps }
     }
 }

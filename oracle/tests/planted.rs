@@ -1,7 +1,9 @@
-//! Rules changed on purpose, and whether two runs and the known frame (compare_known.rs) notice it. Two runs ask that unknown
-//! bytes do not show; only the known frame asks that what is handed out is true. The changed rules are those of frame.rs; the
-//! library is asked nothing. Then engines that find other pixels than the original, which the two notice only where the choice of
-//! the engine is mixed.
+//! Rules changed on purpose, and whether two runs, the known frame (compare_known.rs) and the comparison call by call
+//! (compare_frame.rs) notice it. Two runs ask that unknown bytes do not show; only the known frame asks that what is
+//! handed out is true; and that as much is known as the rules say, only the comparison asks. The changed rules are
+//! those of frame.rs, and the comparison is with frame.rs as it stands, to which the library is held in the same way;
+//! the library is asked nothing. Then engines that find other pixels than the original, which two runs and the known
+//! frame notice only where the choice of the engine is mixed.
 
 use oracle::compare_frame::{beside_original, on_original};
 use oracle::compare_known::{known_frame, two_runs};
@@ -12,6 +14,8 @@ use oracle::library::RunAnswer;
 use oracle::lists::{Class, List};
 use oracle::shapes::RECTANGLE;
 use oracle::sides::{on_frame, Answered, Side};
+use original::writeback::destination;
+use original::RenderMode;
 use std::cell::RefCell;
 
 /// As many must pass before an error counts as not noticed.
@@ -27,6 +31,17 @@ enum Fault {
     ColorZeros,
     /// F5 with cvg_dst 0 makes an unmarked coverage count - 1, and marked, under antialias, too.
     CountMarked,
+    /// F5 with cvg_dst 0, antialias alone and seven samples makes an unmarked coverage 7, and marked, as it does with
+    /// force_blend.
+    SevenMarked,
+    /// F5 with cvg_dst 1 and all eight samples makes an unmarked coverage 7, and marked, as it does with cvg_dst 0.
+    WrapMarked,
+    /// F5 asks `destination` for memory 1 to 7 alone.
+    ZeroNotAsked,
+    /// F5 leaves an unmarked coverage with cvg_dst 0, all eight samples and a flag on.
+    EightLeft,
+    /// F5 leaves an unmarked coverage with cvg_dst 0, seven samples and force_blend on.
+    SevenLeft,
     /// Where F5 marks an unmarked coverage, its byte stays.
     MarkAlone,
     /// A word read passes an unmarked coverage as 0 instead of turning the read away.
@@ -41,19 +56,39 @@ enum Fault {
     ListDraws,
 }
 
-/// Each fault, and whether two runs notice it. Those that they do not notice work on what is known alone, so that unknown bytes do
-/// not show. The known frame notices every one.
-const FAULTS: [(Fault, bool); 10] = [
-    (Fault::DoubtStored, false),
-    (Fault::CoverageFull, false),
-    (Fault::ColorZeros, false),
-    (Fault::CountMarked, false),
-    (Fault::MarkAlone, true),
-    (Fault::ReadZero, false),
-    (Fault::RunZero, false),
-    (Fault::ListShows, true),
-    (Fault::ListMarked, false),
-    (Fault::ListDraws, true),
+/// What notices a fault.
+#[derive(PartialEq, Debug)]
+struct Noticed {
+    two_runs: bool,
+    known_frame: bool,
+    comparison: bool,
+}
+
+/// Unknown bytes show.
+const SHOWN: Noticed = Noticed { two_runs: true, known_frame: true, comparison: true };
+/// What is handed out, or marked as known, is not true; but it is worked out from what is known alone.
+const UNTRUE: Noticed = Noticed { two_runs: false, known_frame: true, comparison: true };
+/// The same in runs of words, which two runs and the comparison of lists do not make (compare_runs.rs does).
+const UNTRUE_RUN: Noticed = Noticed { two_runs: false, known_frame: true, comparison: false };
+/// All that is handed out is true: less is known than should be.
+const LESS: Noticed = Noticed { two_runs: false, known_frame: false, comparison: true };
+
+const FAULTS: [(Fault, Noticed); 15] = [
+    (Fault::DoubtStored, UNTRUE),
+    (Fault::CoverageFull, UNTRUE),
+    (Fault::ColorZeros, UNTRUE),
+    (Fault::CountMarked, UNTRUE),
+    (Fault::SevenMarked, UNTRUE),
+    (Fault::WrapMarked, UNTRUE),
+    (Fault::ZeroNotAsked, UNTRUE),
+    (Fault::EightLeft, LESS),
+    (Fault::SevenLeft, LESS),
+    (Fault::MarkAlone, SHOWN),
+    (Fault::ReadZero, UNTRUE),
+    (Fault::RunZero, UNTRUE_RUN),
+    (Fault::ListShows, SHOWN),
+    (Fault::ListMarked, UNTRUE),
+    (Fault::ListDraws, SHOWN),
 ];
 
 /// The frame of frame.rs, with one of its rules changed or none.
@@ -78,6 +113,21 @@ impl Planted {
         }
     }
 
+    /// F5 over an unmarked coverage, but for the fault.
+    fn fresh(&self, mode: RenderMode, count: u8) -> Option<u8> {
+        let RenderMode { cvg_dst, antialias, force_blend, .. } = mode;
+        let kept = |memory| destination(mode, count, memory);
+        match self.0 {
+            Some(Fault::CountMarked) if cvg_dst == 0 && !force_blend => Some(count - 1),
+            Some(Fault::SevenMarked) if cvg_dst == 0 && antialias && count == 7 => Some(7),
+            Some(Fault::WrapMarked) if cvg_dst == 1 && count == 8 => Some(7),
+            Some(Fault::ZeroNotAsked) => (1..8).all(|memory| kept(memory) == kept(1)).then_some(kept(1)),
+            Some(Fault::EightLeft) if cvg_dst == 0 && (antialias || force_blend) && count == 8 => None,
+            Some(Fault::SevenLeft) if cvg_dst == 0 && force_blend && count == 7 => None,
+            _ => frame::covered(mode, count, None),
+        }
+    }
+
     /// F1 to F5 on one pixel, as `Pen::put` has them but for the fault.
     fn put(&self, pen: &Pen, frame: &mut Frame, pixel: usize, emitted: &Emitted) {
         let (memory, marked) = frame.known(pixel);
@@ -90,11 +140,9 @@ impl Planted {
             let stored = pen.stored(emitted, memory, coverage.unwrap_or(0));
             frame.colors[3 * pixel..3 * pixel + 3].copy_from_slice(&stored);
         }
-        let antialias = pen.mode.antialias && !self.has(Fault::CountMarked);
-        let mode = original::RenderMode { antialias, ..pen.mode };
         let covered = match coverage {
             Some(_) => frame::covered(pen.mode, emitted.count, coverage),
-            None => frame::covered(mode, emitted.count, None),
+            None => self.fresh(pen.mode, emitted.count),
         };
         if let Some(covered) = covered.filter(|_| marked.is_some() || !self.has(Fault::MarkAlone)) {
             frame.coverages[pixel] = covered;
@@ -144,28 +192,24 @@ fn noticed(check: impl Fn(&List, &mut Inputs) -> Result<(), String>) -> Option<u
     })
 }
 
-fn by_two_runs(fault: Option<Fault>) -> Option<u64> {
-    noticed(|list, inputs| two_runs(&Planted(fault), list, inputs).map(drop))
-}
-
-fn by_known_frame(fault: Option<Fault>) -> Option<u64> {
-    noticed(|list, inputs| known_frame(&Planted(fault), list, inputs).map(drop))
+/// The first list in which a fault is noticed: in two runs, by the known frame and in the comparison.
+fn first_lists(fault: Option<Fault>) -> [Option<u64>; 3] {
+    let planted = Planted(fault);
+    [
+        noticed(|list, inputs| two_runs(&planted, list, inputs).map(drop)),
+        noticed(|list, inputs| known_frame(&planted, list, inputs).map(drop)),
+        noticed(|list, _| beside_original(&planted, list)),
+    ]
 }
 
 #[test]
-fn what_two_runs_notice() {
-    assert_eq!(by_two_runs(None), None);
+fn what_notices_a_rule() {
+    assert_eq!(first_lists(None), [None; 3]);
     for (fault, expected) in FAULTS {
-        let list = by_two_runs(Some(fault));
-        assert_eq!(list.is_some(), expected, "{fault:?}: list {list:?}");
-    }
-}
-
-#[test]
-fn what_the_known_frame_notices() {
-    assert_eq!(by_known_frame(None), None);
-    for (fault, _) in FAULTS {
-        assert!(by_known_frame(Some(fault)).is_some(), "{fault:?}");
+        let lists = first_lists(Some(fault));
+        let [two_runs, known_frame, comparison] = lists.map(|list| list.is_some());
+        println!("{fault:?}: first noticed in lists {lists:?}");
+        assert_eq!(Noticed { two_runs, known_frame, comparison }, expected, "{fault:?}: lists {lists:?}");
     }
 }
 
