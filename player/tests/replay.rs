@@ -225,7 +225,7 @@ fn recorded_lists(engine: Engine) {
         }
         assert_eq!(words.0.next(), None);
     }
-    assert_eq!(counts.iter().sum::<i32>(), 457);
+    assert_eq!(counts.iter().sum::<i32>(), 501);
     assert!((0..=10).chain([20]).all(|number| counts[number] > 0), "{counts:?}");
 }
 
