@@ -89,9 +89,13 @@ fn draw(frame: &mut Frame, draw: &PreparedDraw) -> u64 {
         }
         let covered = match coverage {
             Some(coverage) => Some(writeback::destination(mode, count, coverage)),
+            // What `destination` gives for all eight coverages that memory may have, in closed form: the eight
+            // questions would be the Rust side's time.
             None if mode.cvg_dst == 2 => Some(7),
-            None if mode.cvg_dst == 0 && !mode.force_blend && !mode.antialias => Some(count - 1),
-            None => None,
+            None if mode.cvg_dst != 0 => None,
+            None if mode.force_blend => (count >= 7).then_some(7),
+            None if mode.antialias => (count == 8).then_some(7),
+            None => Some(count - 1),
         };
         if let Some(covered) = covered {
             coverages[pixel] = covered;

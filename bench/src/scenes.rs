@@ -82,6 +82,7 @@ impl Numbers {
 }
 
 const MARKED: u8 = 3;
+const UNMARKED: u8 = 0;
 
 fn frame(width: u32, height: u32, mark: u8) -> Frame {
     let pixels = (width * height) as usize;
@@ -95,7 +96,7 @@ fn striped(frame: &Frame) -> Frame {
     let width = frame.width as usize;
     for (pixel, mark) in striped.marks.iter_mut().enumerate() {
         if pixel % width / 100 % 3 == 1 {
-            *mark = 0;
+            *mark = UNMARKED;
         }
     }
     striped
@@ -190,6 +191,8 @@ const MIXED: [f32; 6] = [4.0, 12.0, 30.0, 80.0, 200.0, 400.0];
 pub fn all() -> Vec<Scene> {
     let page = frame(320, 240, MARKED);
     let large = frame(1024, 1024, MARKED);
+    // Bytes that no coverage has: a mark that is set without its byte shows.
+    let unknown = Frame { coverages: vec![200; 1024 * 1024], ..frame(1024, 1024, UNMARKED) };
     let shaded = uniform(constant(SHADE, SHADE), RED);
     let flat = uniform(constant(PRIMITIVE, PRIMITIVE), RED);
     let glass = uniform(constant(PRIMITIVE, PRIMITIVE), GLASS);
@@ -238,6 +241,13 @@ pub fn all() -> Vec<Scene> {
             name: "large rectangles, blended with memory",
             draws: vec![rectangle(&large, translucent(), glass, sides); 4],
             frame: large.clone(),
+            reads: Reads::Nothing,
+        },
+        // One, because a second would find its coverages known.
+        Scene {
+            name: "a large rectangle over an unknown frame",
+            draws: vec![rectangle(&unknown, opaque(), flat, sides)],
+            frame: unknown,
             reads: Reads::Nothing,
         },
         Scene {
