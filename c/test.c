@@ -706,7 +706,8 @@ static void draw_triangle(void) {
     CHECK_DRAWN(&s, 0);
 }
 
-/* Black by half over white, in columns 1 and 2: known ground becomes grey, unknown ground stays unknown. */
+/* Black by half over white, in columns 1 and 2: known ground becomes grey; of unknown ground the colour stays unknown, and the coverage is full and known, since all
+ * eight samples are hit and the blend is forced. */
 static void draw_blended(void) {
     scene s = plain_scene();
     s.geometry = rectangle(0.0f, 0.0f, 2.0f, 4.0f);
@@ -717,18 +718,22 @@ static void draw_blended(void) {
     s.mode.blender_mux = mux(0, 0, 1, 0);
     s.geometry = rectangle(1.0f, 0.0f, 3.0f, 4.0f);
     CHECK_DRAWN(&s, 8);
-    /* with cvg_dst 2 the coverage is known, the colour is not */
+    /* with cvg_dst 3 neither is known, with cvg_dst 2 the coverage is */
+    s.mode.cvg_dst = 3;
+    s.geometry = rectangle(3.0f, 0.0f, 4.0f, 2.0f);
+    CHECK_DRAWN(&s, 2);
     s.mode.cvg_dst = 2;
-    s.geometry = rectangle(3.0f, 0.0f, 4.0f, 4.0f);
-    CHECK_DRAWN(&s, 4);
+    s.geometry = rectangle(3.0f, 2.0f, 4.0f, 4.0f);
+    CHECK_DRAWN(&s, 2);
     for (int y = 0; y < SIDE; y++) {
         CHECK_PIXEL(s, y * SIDE, 255, 255, 255, 7, 3);
         CHECK_PIXEL(s, y * SIDE + 1, 128, 128, 128, 7, 3);
-        CHECK_PIXEL(s, y * SIDE + 2, 9, 9, 9, 200, 0);
-        CHECK_PIXEL(s, y * SIDE + 3, 9, 9, 9, 7, 2);
+        CHECK_PIXEL(s, y * SIDE + 2, 9, 9, 9, 7, 2);
+        CHECK_PIXEL(s, y * SIDE + 3, 9, 9, 9, y < 2 ? 200 : 7, y < 2 ? 0 : 2);
     }
     /* over known ground by an unknown colour: the mark goes, the bytes stay */
     s.marks[2] = 1;
+    s.coverages[2] = 200;
     s.mode.blender_mux = mux(1, 0, 1, 0);
     s.geometry = rectangle(2.0f, 0.0f, 3.0f, 1.0f);
     CHECK_DRAWN(&s, 1);
@@ -736,6 +741,159 @@ static void draw_blended(void) {
     s.marks[2] = 0;
     CHECK_DRAWN(&s, 1);
     CHECK_PIXEL(s, 2, 9, 9, 9, 7, 2);
+}
+
+/* A coverage that is not known and stays so. */
+enum { UNKNOWN = 8 };
+
+/* F5 by its list of cases: what a pixel of so many samples makes of a coverage that is not known. */
+static uint8_t fresh(wb_mode m, int count) {
+    if (m.cvg_dst == 2) {
+        return 7;
+    }
+    if (m.cvg_dst != 0) {
+        return UNKNOWN;
+    }
+    if (!m.force_blend && !m.antialias) {
+        return (uint8_t)(count - 1);
+    }
+    return count == 8 || (count == 7 && m.force_blend) ? 7 : UNKNOWN;
+}
+
+/* F5 by its eight questions. */
+static uint8_t one_number(wb_mode m, uint8_t mask) {
+    uint32_t number = wb_destination(m, mask, 0).value;
+    for (uint8_t memory = 1; memory < 8; memory++) {
+        if (wb_destination(m, mask, memory).value != number) {
+            return UNKNOWN;
+        }
+    }
+    return (uint8_t)number;
+}
+
+static wb_mode mode_of(int cvg_dst, int flags) {
+    wb_mode m = plain_mode();
+    m.cvg_dst = (uint8_t)cvg_dst;
+    m.force_blend = (flags & 1) != 0;
+    m.antialias = (flags & 2) != 0;
+    return m;
+}
+
+/* Of one pixel so many samples, the first among them, so that it is emitted without antialias too. No rectangle has seven. A triangle's sides along the axes are as
+ * long as this; the third leaves out the samples whose x and y come to that or more. */
+static const struct {
+    int count;
+    uint8_t mask;
+    bool triangle;
+    float right, bottom;
+} shapes[11] = {
+    {1, 0x80, false, 0.5f, 0.25f},  {2, 0xc0, false, 1.0f, 0.25f},  {3, 0xe0, false, 0.75f, 0.5f}, {4, 0xf0, false, 1.0f, 0.5f},
+    {5, 0xec, false, 0.75f, 0.75f}, {6, 0xfc, false, 1.0f, 0.75f},  {8, 0xff, false, 1.0f, 1.0f},  {1, 0x80, true, 0.5f, 0.5f},
+    {4, 0xe8, true, 1.0f, 1.0f},    {7, 0xfe, true, 1.5f, 1.5f},    {8, 0xff, true, 2.0f, 2.0f},
+};
+
+/* A pixel over a coverage that is not known, whatever byte stands there: it becomes known in the cases of F5 alone, and its byte stays in all others. Its colour is
+ * known, so that its word of two bytes turns on the coverage. */
+static void unknown_coverages(void) {
+    static const uint8_t masks[8] = {0x01, 0x21, 0x54, 0xd8, 0x6d, 0xe7, 0xfb, 0xff}, bytes[3] = {0, 7, 200};
+    static const int destinations[6] = {0, 1, 2, 3, 4, 255};
+    for (int cvg_dst = 0; cvg_dst < 256; cvg_dst++) {
+        for (int flags = 0; flags < 4; flags++) {
+            for (int count = 1; count <= 8; count++) {
+                CHECK(one_number(mode_of(cvg_dst, flags), masks[count - 1]), fresh(mode_of(cvg_dst, flags), count));
+            }
+        }
+    }
+    for (int i = 0; i < 11; i++) {
+        scene s = plain_scene();
+        s.scissor.width = s.scissor.height = 1;
+        s.geometry = shapes[i].triangle ? of_kind(WB_TRIANGLES) : rectangle(0.0f, 0.0f, shapes[i].right, shapes[i].bottom);
+        set_vertex(s.vertices, 0.0f, 0.0f, grey(1.0f));
+        set_vertex(s.vertices + 6, shapes[i].right, 0.0f, grey(1.0f));
+        set_vertex(s.vertices + 12, 0.0f, shapes[i].bottom, grey(1.0f));
+        CHECK_EMITTED(&s, 0, 0, shapes[i].mask);
+        CHECK_EMITTED(&s, 1, 0, 0);
+        /* flat and shaded, the colour known before or not */
+        for (int kind = 0; kind < 6 * 4 * 3 * 4; kind++) {
+            int shaded = kind % 2, mark = kind / 2 % 2, byte = bytes[kind / 4 % 3], flags = kind / 12 % 4;
+            scene drawn = s;
+            drawn.mode = mode_of(destinations[kind / 48], flags);
+            if (shaded) {
+                drawn.uniform = only_words(INDEX_SHADE, INDEX_ONE);
+            }
+            drawn.marks[0] = (uint8_t)mark;
+            drawn.coverages[0] = (uint8_t)byte;
+            wb_drawn got = draw(&drawn, __LINE__);
+            CHECK(got.number, 0);
+            CHECK(got.pixels, 1);
+            uint8_t number = fresh(drawn.mode, shapes[i].count);
+            bool known = number != UNKNOWN;
+            CHECK_PIXEL(drawn, 0, 255, 255, 255, known ? number : byte, known ? 3 : 1);
+            CHECK_ANSWER(read_word(&drawn, 0, 0, 2, true), known ? 0 : 10, known ? (number < 4 ? 0xfeff : 0xffff) : 0);
+            CHECK_ANSWER(read_word(&drawn, 0, 2, 1, true), 0, 255);
+        }
+    }
+}
+
+/* Solid panels over a frame of which nothing is known. */
+static void draw_panels(void) {
+    /* forced, the pixel's own colour by 1: its words can be read at once; of the pixels that are hit by half, at the left and at the bottom, bytes alone */
+    scene s = plain_scene();
+    s.mode.antialias = s.mode.force_blend = true;
+    s.mode.blender_mux = mux(0, 3, 0, 2);
+    s.uniform.prim = rgba(0.5f, 1.0f, 0.0f, 1.0f);
+    s.geometry = rectangle(0.5f, 0.0f, 4.0f, 3.5f);
+    CHECK_DRAWN(&s, 16);
+    for (int i = 0; i < PIXELS; i++) {
+        bool full = i % SIDE > 0 && i / SIDE < 3;
+        CHECK_PIXEL(s, i, 128, 255, 0, full ? 7 : 200, full ? 3 : 1);
+        CHECK_ANSWER(read_word(&s, (size_t)i, 0, 2, true), full ? 0 : 10, full ? 0xc187 : 0);
+        CHECK_ANSWER(read_word(&s, (size_t)i, 2, 1, true), 0, i % 2 == 0 ? 128 : 255);
+    }
+
+    /* antialiased over memory by its coverage: whether the first is blended cannot be told, and so its colour is not known. Its coverage is, and then the second's
+     * colour */
+    s = plain_scene();
+    s.mode.antialias = true;
+    s.mode.blender_mux = mux(0, 0, 1, 1);
+    s.geometry = rectangle(0.0f, 0.0f, 4.0f, 4.0f);
+    CHECK_DRAWN(&s, 16);
+    for (int i = 0; i < PIXELS; i++) {
+        CHECK_PIXEL(s, i, 9, 9, 9, 7, 2);
+        CHECK_ANSWER(read_word(&s, (size_t)i, 0, 2, true), 10, 0);
+    }
+    CHECK_DRAWN(&s, 16);
+    for (int i = 0; i < PIXELS; i++) {
+        CHECK_PIXEL(s, i, 255, 255, 255, 7, 3);
+        CHECK_ANSWER(read_word(&s, (size_t)i, 0, 2, true), 0, 0xffff);
+    }
+
+    /* the widest row, whose pixels the fast engine fills many at a time: every mark, over every byte that it lets stand there, in turn */
+    enum { ROW = 1024 };
+    static uint8_t colors[3 * ROW], coverages[ROW], marks[ROW], covered[ROW], marked[ROW];
+    s = plain_scene();
+    s.geometry = rectangle(0.0f, 0.0f, ROW, 1.0f);
+    s.scissor.width = ROW;
+    for (int flags = 0; flags < 4; flags++) {
+        for (int cvg_dst = 0; cvg_dst < 5; cvg_dst++) {
+            for (uint8_t engine = WB_ENGINE_FAST; engine <= WB_ENGINE_SLOW; engine++) {
+                s.mode = mode_of(cvg_dst, flags);
+                bool full = fresh(s.mode, 8) == 7;
+                for (int i = 0; i < ROW; i++) {
+                    marks[i] = (uint8_t)(i % 4);
+                    coverages[i] = (uint8_t)(marks[i] < 2 ? i / 4 : i / 4 % 8);
+                    marked[i] = (uint8_t)(full ? 3 : marks[i] | 1);
+                    /* all eight samples added modulo 8 leave a known one as it was */
+                    covered[i] = full ? 7 : coverages[i];
+                }
+                wb_drawn got = wb_draw(engine, ROW, 1, colors, sizeof colors, coverages, sizeof coverages, marks, sizeof marks, s.mode, s.uniform, s.cull,
+                                       s.scissor, s.geometry, s.vertices, 0, s.present, 0, s.indices, 0);
+                CHECK(got.pixels, ROW);
+                CHECK(memcmp(coverages, covered, sizeof covered), 0);
+                CHECK(memcmp(marks, marked, sizeof marked), 0);
+            }
+        }
+    }
 }
 
 /* Numbers 1 to 7, each from a scene that is accepted otherwise. */
@@ -1084,6 +1242,8 @@ int main(int count, char **words) {
     draw_rectangle();
     draw_triangle();
     draw_blended();
+    unknown_coverages();
+    draw_panels();
     refused_draws();
     emitted_pixels();
     engine_numbers();

@@ -267,7 +267,8 @@ wb_fragment wb_pixel(wb_mode mode, wb_combiner combiner, bool cull, wb_geometry 
                      const uint8_t *present, size_t present_len, const uint32_t *indices, size_t indices_len, size_t i, uint32_t y, uint32_t x);
 
 /* ---- the frame: width * height pixels in three lists, three colour bytes, one coverage and one mark for each. Mark 1 says that a colour is known, mark 2 that a
- * coverage is; a mark byte is their sum. */
+ * coverage is; a mark byte is their sum. A draw makes a coverage known where memory keeps the same one (wb_destination) whatever it had: so where
+ * cvg_dst is 2, and where it is 0 and all eight samples are hit (docs/RULES.md, F5, has every case). */
 
 typedef struct {
     uint32_t left, top, width, height;
