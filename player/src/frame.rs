@@ -177,6 +177,33 @@ impl Frame {
     /// before its draws, a word that is answered is right, whatever was not known. It is turned away with numbers 1 to 3 and
     /// 8 to 10.
     ///
+    /// A 16-bit word holds a bit of the coverage, and is turned away with number 10 where the colour alone is known. A draw makes
+    /// a coverage known where it ends at one number whatever it was ([`RenderMode::cvg_dst`](crate::RenderMode::cvg_dst)): so
+    /// does a solid panel with `cvg_dst` 0 or 2 at every pixel that it covers whole.
+    ///
+    /// ```
+    /// use writeback::{AlphaIn, ColorIn, CombinerUniform, CycleSel, Draw, Frame, Geometry, Refusal, RenderMode, Writer};
+    ///
+    /// // A blue panel over a frame of which nothing is known. It covers the first column by half.
+    /// let mut frame = Frame::new(8, 4)?;
+    /// let blue = CombinerUniform { prim: [0.0, 0.0, 1.0, 1.0], ..CombinerUniform::default() };
+    /// let panel = Draw {
+    ///     mode: RenderMode { antialias: true, ..RenderMode::default() },
+    ///     uniform: blue.with_inputs(CycleSel::only(ColorIn::Primitive, AlphaIn::One)).unwrap(),
+    ///     geometry: Geometry::Rectangle { left: 0.5, top: 0.0, right: 8.0, bottom: 4.0 },
+    ///     ..Draw::default()
+    /// };
+    /// frame.draw(&panel)?;
+    /// assert_eq!(frame.coverage(1), Some(7));
+    /// assert_eq!(frame.read_word(1, &Writer::RGBA16), Ok([0x00, 0x3f]));
+    ///
+    /// // Of the first pixel the colour is known: a byte of it can be read, and a 16-bit word cannot.
+    /// assert_eq!((frame.color(0), frame.coverage(0)), (Some([0, 0, 255]), None));
+    /// assert_eq!(frame.read_word(0, &Writer::RGBA16), Err(Refusal::UNKNOWN));
+    /// assert_eq!(frame.read_word(0, &Writer { fmt: 4, siz: 1, ..Writer::RGBA16 }), Ok([0, 0]));
+    /// # Ok::<(), Refusal>(())
+    /// ```
+    ///
     /// Every call looks at the whole frame for number 3: [`Frame::read_words`] reads many pixels for that price.
     pub fn read_word(&self, pixel: usize, writer: &Writer) -> Result<[u8; 2], Refusal> {
         ffi::read_word(self.lent(), pixel, writer)

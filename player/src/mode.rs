@@ -55,6 +55,10 @@ pub struct RenderMode {
     /// Chroma keying. No draw looks at it.
     pub key_enabled: bool,
     /// What becomes of a coverage: 0 added up to full or, unblended, the pixel's own; 1 added modulo 8; 2 full; else kept.
+    ///
+    /// One that is not known becomes known where this is one number for every coverage that it may be: with 2; with 0 where
+    /// all eight samples are hit, or seven and [`force_blend`](RenderMode::force_blend) is on, or neither `force_blend` nor
+    /// [`antialias`](RenderMode::antialias) is on.
     pub cvg_dst: u8,
     /// Whether colour memory is read. No draw looks at it.
     pub image_read: bool,

@@ -68,7 +68,8 @@ impl Refusal {
     pub const PIXEL: Refusal = Refusal(8);
     /// Number 9: fmt and siz are not a supported colour writer.
     pub const WRITER: Refusal = Refusal(9);
-    /// Number 10: the colour is unmarked, or the coverage is unmarked and siz is 2.
+    /// Number 10: the colour is unmarked, or the coverage is unmarked and siz is 2. What a draw makes known is said at
+    /// [`Frame::read_word`](crate::Frame::read_word).
     pub const UNKNOWN: Refusal = Refusal(10);
     /// Number 11: an argument of a single-pixel call is out of its range.
     pub const ARGUMENTS: Refusal = Refusal(11);

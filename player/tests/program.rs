@@ -97,15 +97,64 @@ fn sample() {
 
     let picture = png::read(&fs::read(folder.path("album.png")).unwrap());
     assert_eq!((picture.width, picture.height), (1280, 960));
-    // The page; outside it; under the glass, over the page and outside it; the torn corner; the two stamps.
+    // The page; outside it; the ribbon, before its end, at it and behind it; under the glass, over the page and outside it; the torn
+    // corner; the two stamps.
     assert_eq!(block(&picture, 20, 20), BTreeSet::from([[237, 227, 199]]));
     assert_eq!(block(&picture, 2, 2), BTreeSet::from(HATCH));
+    assert_eq!(block(&picture, 3, 140), BTreeSet::from(HATCH));
+    assert_eq!(block(&picture, 4, 140), BTreeSet::from([[179, 26, 51]]));
+    assert_eq!(block(&picture, 5, 140), BTreeSet::from([[179, 26, 51]]));
     assert_eq!(block(&picture, 300, 20), BTreeSet::from([[171, 211, 218]]));
     assert_eq!(block(&picture, 310, 20), BTreeSet::from(HATCH));
     assert_eq!(block(&picture, 300, 200), BTreeSet::from(HATCH));
     assert_eq!(block(&picture, 272, 217), BTreeSet::from([[200, 30, 40]]));
     assert_eq!(block(&picture, 288, 217), BTreeSet::from([[30, 60, 200]]));
     assert_eq!(block(&picture, 288, 219), BTreeSet::from(HATCH));
+}
+
+/// What docs/FORMAT.md shows of the sample is what the program prints for it.
+#[test]
+fn the_page_on_the_format() {
+    let (mut lines, mut log) =
+        (include_str!("../samples/album.out").lines(), include_str!("../samples/album.log").lines());
+    let (_, printed) = include_str!("../../docs/FORMAT.md").split_once("## What is printed").unwrap();
+    let mut shown = 0;
+    for line in printed.lines() {
+        let found = match line.strip_prefix("    ") {
+            Some(line) if ["line ", "  pixel", "calls "].iter().any(|start| line.starts_with(start)) => {
+                lines.any(|of| of == line)
+            }
+            Some(line) if line.starts_with("player/samples/") => log.any(|of| line.strip_prefix("player/") == Some(of)),
+            _ => continue,
+        };
+        assert!(found, "{line}");
+        shown += 1;
+    }
+    assert!(shown > 10, "{shown}");
+}
+
+/// A panel over ground of which nothing is known: where it covers a pixel whole its word can be read, and where half of the samples
+/// are hit a byte alone, by either engine.
+#[test]
+fn a_panel_over_unknown_ground() {
+    for engine in ["fast", "slow"] {
+        let (lines, log) = carried(format!(
+            "frame 6 2\nengine {engine}\ncombine zero zero zero one zero zero zero one\nblender pixel zero pixel one\n\
+             words 0 6\nmode force_blend on antialias on\nrectangle 0.5 0 6 1.5\nwords 0 12\nwriter fmt 2 siz 1\nwords 0 12\n"
+        ));
+        let dashes = " ----".repeat(6);
+        assert_eq!(
+            lines,
+            format!(
+                "line 5: words 0 6:{dashes}\nline 7: rectangle: 12 pixels\nline 8: words 0 12: ----{}{dashes}\n\
+                 line 10: words 0 12:{}\ncalls 4, log lines 3\n",
+                " ffff".repeat(5),
+                " ff00".repeat(12)
+            )
+        );
+        let stretches: Vec<&str> = log.lines().map(|line| line.split(':').nth(2).unwrap()).collect();
+        assert_eq!(stretches, [" pixels 0 to 5", " pixel 0", " pixels 6 to 11"]);
+    }
 }
 
 /// With `engine slow` in the empty line behind `frame`, every line, every log line and every byte of the picture is the same.
