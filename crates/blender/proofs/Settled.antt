@@ -33,7 +33,7 @@ module _ (n : ℕ) where
   sum : (c : ℕ) → n + c ≤ 7 → clamp false true c ≡ n + c
   sum c l = (λ i. cond (not (lt-leb 8 (n + c) (omega arith) i)) (min (n + c) 7) (n - 1)) ∙ omega arith
 
-  -- fewer than eight do not overflow over 0, and all but none overflow over 7
+  -- fewer than eight do not overflow over 0, and from one on they do over 7; none at all gives 0 and 7
   fewer : n ≤ 7 → clamp false true 7 ≡ clamp false true 0 → ⊥
   fewer l e = go (leb 1 n) refl
     where

@@ -15,7 +15,7 @@ use Rattle.blender.specs.Coverage.{overflows, blends}
 use Rattle.blender.specs.Known.{reject, alone, missing, anyCoverage, whereUnknown, colorKnown}
 use Rattle.blender.specs.Layer.{opaqueOf, ownOf}
 use Rattle.blender.specs.Blend.{sourceOf, factorA, factorB, mixedOf, bytesOf, blendOf}
-use Rattle.num_float.proofs.Tests.{never}
+use Rattle.num_float.proofs.Tests.{never, and-false, or-true}
 
 -- what is said of a pixel that is opaque
 pub record Opaque (mode : RenderMode) (alpha : Float) : Type 0 where
@@ -38,14 +38,6 @@ module _ (mode : RenderMode) (alpha : Float) where
             alone = λ n c. ap (λ (t : Bool). not (blends mode n c) || t) er ∙ or-true (not (blends mode n c));
             sure = ap (λ (t : Bool). mode .antialias && not (mode .«force_blend») && not t) er ∙ and-false (mode .antialias && not (mode .«force_blend»));
           }
-        where
-          or-true : (b : Bool) → (b || true) ≡ true
-          or-true true = refl
-          or-true false = refl
-
-          and-false : (b : Bool) → (b && false) ≡ false
-          and-false true = refl
-          and-false false = refl
       go false false true a ep er ef ea h = never h
       go false false false true ep er ef ea h = never h
       go false false false false ep er ef ea h =

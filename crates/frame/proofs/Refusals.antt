@@ -16,7 +16,7 @@ use Rattle.frame_pixel.specs.Marks.{highestMark, coverageMarked}
 use Rattle.frame.specs.Frame.{Frame}
 use Rattle.frame.specs.Checks.{sizeOk, sizesOk, lengthsOk, markOk, marksOk, frameRefusal}
 use Rattle.frame.specs.Finding.{every, atMost, coverageUnmarked}
-use Rattle.num_float.proofs.Tests.{both-left, both-right}
+use Rattle.num_float.proofs.Tests.{both-left, both-right, and-true}
 use Rattle.frame.proofs.Fits.{pixels-le}
 
 together : (a b c : Bool) → ((a && b) && c) ≡ (a && (b && c))
@@ -29,11 +29,7 @@ module _ (ok : Bool) {rest all : Bool} where
   found-next next {test = test} g more inv = (λ j. (ok && g j) && next) ∙ together ok test next ∙ (λ j. ok && sym more j) ∙ inv
 
   pub found-done : true ≡ rest → (ok && rest) ≡ all → ok ≡ all
-  found-done e inv = sym (alone ok) ∙ (λ j. ok && e j) ∙ inv
-    where
-      alone : (a : Bool) → (a && true) ≡ a
-      alone true = refl
-      alone false = refl
+  found-done e inv = sym (and-true ok) ∙ (λ j. ok && e j) ∙ inv
 
 -- ---- one list: what was found of the numbers before i, and the rest
 module _ (test : ℕ → Bool) (l : List ℕ) where

@@ -24,7 +24,7 @@ use Rattle.frame_pixel.specs.declared.Colors.{Colors}
 use Rattle.frame_pixel.specs.Marks.{colorMarked, coverageMarked, unknown}
 use Rattle.frame_pixel.specs.Rules.{ruleF1, ruleF2, unit, memoryOf, ruleF3, ruleF5, coverageAt, knownAfter, colorsAfter, coverageAfter}
 use Rattle.frame_pixel.specs.Certain.{Completes, CertainColors, CertainCoverage, colorsOver, SameAtEnds}
-use Rattle.num_float.proofs.Tests.{never, both-left, both-right}
+use Rattle.num_float.proofs.Tests.{never, both-left, both-right, and-false}
 use Rattle.frame_pixel.proofs.Eight.{fresh-known}
 use Rattle.frame_pixel.proofs.Knows.{memory-too, same-colors, coverage-too, all-covered, all-colors}
 
@@ -186,11 +186,7 @@ module _ (mode : RenderMode) (k : Combiner) (s : Source) (x : Pixel)
 module _ (mode : RenderMode) (k : Combiner) (s : Source) (x : Pixel) (doubt : ruleF2 mode s (coverageAt x) ≡ true) where
   left-unknown : knownAfter mode s x ≡ false
   unfolding knownAfter
-  left-unknown = (λ i. ruleF1 mode s (coverageAt x) (colorMarked (x .mark)) && not (doubt i)) ∙ none (ruleF1 mode s (coverageAt x) (colorMarked (x .mark)))
-    where
-      none : (b : Bool) → (b && false) ≡ false
-      none true = refl
-      none false = refl
+  left-unknown = (λ i. ruleF1 mode s (coverageAt x) (colorMarked (x .mark)) && not (doubt i)) ∙ and-false (ruleF1 mode s (coverageAt x) (colorMarked (x .mark)))
 
   not-forced : mode .«force_blend» ≡ false
   unfolding ruleF2

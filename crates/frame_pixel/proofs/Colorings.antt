@@ -26,16 +26,8 @@ use Rattle.frame_pixel.specs.declared.Colored.{Colored}
 use Rattle.frame_pixel.specs.declared.Colors.{Colors}
 use Rattle.frame_pixel.specs.Marks.{colorMarked, unknown}
 use Rattle.frame_pixel.specs.Rules.{ruleF1, ruleF2, memoryOf, ruleF3, ruleF4, coverageAt, knownAfter, colorsAfter, coverageAfter, assembled, pixelStep}
-use Rattle.num_float.proofs.Tests.{never}
+use Rattle.num_float.proofs.Tests.{never, and-true, and-false}
 use Rattle.frame_pixel.specs.Coloring.{ownColors, overColors, coloredOf}
-
-and-false : (b : Bool) → (b && false) ≡ false
-and-false true = refl
-and-false false = refl
-
-and-true : (b : Bool) → (b && true) ≡ b
-and-true true = refl
-and-true false = refl
 
 -- colours that are stored where they are known
 pub where-known : (known : Bool) (old : Colors) {told new : Colors} → (known ≡ true → told ≡ new) → cond known told old ≡ cond known new old

@@ -12,7 +12,7 @@ use Rattle.blender.specs.Coverage.{destinationOf}
 use Rattle.blender.specs.Blend.{orZero}
 use Rattle.blender.specs.Settled.{settledOf}
 use Rattle.blender.proofs.Settled.{oneNumber, ends-same, settled-ends}
-use Rattle.num_float.proofs.Tests.{never}
+use Rattle.num_float.proofs.Tests.{never, and-false}
 use Rattle.frame_pixel.specs.Marks.{unknown}
 use Rattle.frame_pixel.specs.Rules.{allEight, freshCoverage}
 
@@ -24,11 +24,9 @@ all-yes asked said =
     && said 6 (omega arith) i && said 7 (omega arith) i
 
 last-no : (asked : ℕ → Bool) → asked 7 ≡ false → allEight asked ≡ false
-last-no asked e = and-no (asked 0 && asked 1 && asked 2 && asked 3 && asked 4 && asked 5 && asked 6) e
-  where
-    and-no : (a : Bool) {b : Bool} → b ≡ false → (a && b) ≡ false
-    and-no true e = e
-    and-no false e = refl
+last-no asked e =
+    let others = asked 0 && asked 1 && asked 2 && asked 3 && asked 4 && asked 5 && asked 6 in
+    (λ i. others && e i) ∙ and-false others
 
 -- ---- `destination` asked eight times
 module _ (mode : RenderMode) (n : ℕ) where

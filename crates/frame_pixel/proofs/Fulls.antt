@@ -24,7 +24,7 @@ use Rattle.frame_pixel.specs.Marks.{colorMarked, coverageMarked}
 use Rattle.frame_pixel.specs.Rules.{ruleF1, ruleF2, memoryOf, ruleF3, ruleF4, freshCoverage, ruleF5, coverageAt, knownAfter, colorsAfter, coverageAfter, assembled, pixelStep}
 use Rattle.frame_pixel.specs.Coloring.{ownColors, overColors}
 use Rattle.frame_pixel.specs.Full.{isFull, FullOf, Enough, fullCoverage, fullWith, fullStep}
-use Rattle.num_float.proofs.Tests.{never}
+use Rattle.num_float.proofs.Tests.{never, and-false}
 use Rattle.frame_pixel.proofs.Eight.{fresh-known, fresh-unknown}
 use Rattle.frame_pixel.proofs.Colorings.{where-known, opaque-yes, opaque-colors, layered-known, layered-colors}
 
@@ -86,10 +86,6 @@ full-rule mode (Known c) h = (λ i. cond (fills-asked mode i) (Known 7) (Known c
 
 -- ---- a pixel with all samples
 module _ (mode : RenderMode) (k : Combiner) (s : Source) (x : Pixel) (n : s .count ≡ 8) where
-  and-false : (b : Bool) → (b && false) ≡ false
-  and-false true = refl
-  and-false false = refl
-
   -- one that is steady and not opaque: its own colour where the coverage is known, and in doubt where it is not
   module _ (o : Steady mode) (h : opaqueOf mode (s .color .a) ≡ false) where
     steady-verdict :

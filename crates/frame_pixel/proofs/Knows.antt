@@ -23,7 +23,7 @@ use Rattle.frame_pixel.specs.declared.Colors.{Colors}
 use Rattle.frame_pixel.specs.Marks.{colorMarked, coverageMarked, markOf}
 use Rattle.frame_pixel.specs.Rules.{ruleF1, ruleF2, memoryOf, ruleF3, ruleF4, freshCoverage, ruleF5, coverageAt, knownAfter, colorsAfter, coverageAfter, assembled, pixelStep}
 use Rattle.frame_pixel.specs.Knows.{KnowsPixel, AllKnownPixel, consoleStep}
-use Rattle.num_float.proofs.Tests.{never, both-left, both-right}
+use Rattle.num_float.proofs.Tests.{never, both-left, both-right, or-true}
 use Rattle.frame_pixel.proofs.Eight.{fresh-same}
 use Rattle.frame_pixel.proofs.Alike.{color-after, covered-after, colors-after}
 
@@ -88,10 +88,6 @@ sure-alone mode s n {i = i} {j = j} t Less.none Less.none =
     go false false r o q t = refl
     go true false false o q t = never (sym t)
     go true false true o q t = or-true (not o) ∙ sym (or-true (not q))
-      where
-        or-true : (b : Bool) → (b || true) ≡ true
-        or-true true = refl
-        or-true false = refl
 
 module _ (mode : RenderMode) (s : Source) (c : Coverage) (a : Bool) (known : (ruleF1 mode s c a && not (ruleF2 mode s c)) ≡ true) where
   said : ruleF1 mode s c a ≡ true

@@ -1,7 +1,7 @@
 -- Each wrong rule breaks the law of one pixel, by computing: where less was known a byte is marked that is not the one where everything is known. Assumes nothing.
 use Prim.Native.Nat.{ℕ}
 use mathlib.Core.Path.{_≡_, refl, sym, _∙_}
-use mathlib.Core.Bool.{Bool, true, false, not, _&&_}
+use mathlib.Core.Bool.{true, false, not, _&&_}
 use native.Mathlib.Omega.{arith}
 use lib.Ieee.{lt, le, mul, add, sub, div, ofInt}
 use Rattle.num_bits.specs.Field.{field}
@@ -12,7 +12,7 @@ use Rattle.blender.specs.Mux.{muxOf}
 use Rattle.blender.specs.Coverage.{blends, clampOf, destinationOf}
 use Rattle.blender.specs.Known as known
 use Rattle.blender.specs.Blend.{factorB, mixedOf, bytesOf, blendOf}
-use Rattle.num_float.proofs.Tests.{never}
+use Rattle.num_float.proofs.Tests.{never, and-true}
 use Rattle.frame_pixel.specs.declared.Pixel.{Pixel}
 use Rattle.frame_pixel.specs.Marks.{colorMarked, coverageMarked, markOf}
 use Rattle.frame_pixel.specs.Rules.{ruleF1, ruleF2, memoryOf, ruleF3, freshCoverage, ruleF5, coverageAt, knownAfter, colorsAfter, coverageAfter, assembled, pixelStep}
@@ -41,10 +41,6 @@ without-same mode k s x e =
     let said = ruleF1 mode s (coverageAt x) (colorMarked (x .mark)) in
     let path : said ≡ said && not (ruleF2 mode s (coverageAt x)) = sym ((λ i. said && not (e i)) ∙ and-true said) in
     λ i. stepIf (path i) mode k s x
-  where
-    and-true : (b : Bool) → (b && true) ≡ b
-    and-true true = refl
-    and-true false = refl
 
 -- ---- zeros stored for a colour that is not known: the memory was red
 zeros-step :
