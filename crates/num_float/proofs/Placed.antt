@@ -13,7 +13,7 @@ use lib.Dec.{T, leb, leb→le, nleb→lt, lit≤}
 use lib.Pow.{pow-add, pow_pos, pow_mono, shl_lt, shl-shr}
 use lib.Ieee.{Float, nan, inf, fin, binary32, binary64, up, down, size, nearest, round, add, fits, is_nan, to_bits}
 use lib.Ieee.Fits.{and_i, fits_widens, down_pos, nearest-le}
-use lib.Ieee.Digits.{size-lt, size_le, back}
+use lib.Ieee.Digits.{size-lt, size-le, back}
 use lib.Ieee.Exact.{HasValue}
 use lib.Ieee.Nearest.{closest, closest_same, nearest-ge, div_same}
 use lib.Ieee.Order.{drop}
@@ -31,7 +31,7 @@ number (inf s) a c v = tt
 number (fin s m e) a c v = tt
 
 size_exact : (j n : ℕ) → 2 ^ j ≤ n → n < 2 ^ suc j → size n ≡ suc j
-size_exact j n lo hi = le_antisymm (size_le n (suc j) hi) (lt_of_not-le (λ (g : size n ≤ j). not-le_of_lt (lt_of_lt_of_le (size-lt n) (pow_mono g)) lo))
+size_exact j n lo hi = le_antisymm (size-le n (suc j) hi) (lt_of_not-le (λ (g : size n ≤ j). not-le_of_lt (lt_of_lt_of_le (size-lt n) (pow_mono g)) lo))
 
 -- of W * 2 ^ -26, where W has 53 digits
 pattern : (x : Float) (W : ℕ) → HasValue x false (W * 2 ^ 1048) (2 ^ 1074) → 2 ^ 52 ≤ W → W < 2 ^ 53 → to_bits binary64 x ≡ 1048 * 2 ^ 52 + W

@@ -8,16 +8,16 @@ use Rattle.combiner_inputs.proofs.Tables.{entry, rest}
 use Rattle.combiner_inputs.proofs.alpha_abd.Statement.{statement}
 use Rattle.combiner_inputs.proofs.alpha_abd.Tie as tie
 
-pub alpha-abd-spec : {M : Type 1} → statement M
+pub alpha_abd_spec : {M : Type 1} → statement M
 unfolding alpha_abd
-alpha-abd-spec =
+alpha_abd_spec =
     tie.close
     (tie.spec
-    (λ c. meant alpha_number refl (entry alpha_abd alpha.Zero 3 c.before.args.idx c.match.keys1))
-    (λ c. meant alpha_number refl (entry alpha_abd alpha.Zero 3 c.before.args.idx c.match.keys2))
-    (λ c. meant alpha_number refl (entry alpha_abd alpha.Zero 3 c.before.args.idx c.match.keys3))
-    (λ c. meant alpha_number refl (entry alpha_abd alpha.Zero 3 c.before.args.idx c.match.keys4))
-    (λ c. meant alpha_number refl (entry alpha_abd alpha.Zero 3 c.before.args.idx c.match.keys5))
-    (λ c. meant alpha_number refl (entry alpha_abd alpha.Zero 3 c.before.args.idx c.match.keys6))
-    (λ c. meant alpha_number refl (entry alpha_abd alpha.Zero 3 c.before.args.idx c.match.keys7))
-    (λ c. meant alpha_number refl (rest alpha_abd alpha.Zero 3 c.before.args.idx c.match.rest)))
+    (λ c. meant alpha_number refl (entry alpha_abd alpha.Zero 3 c.before.args.idx c.in_default.keys1))
+    (λ c. meant alpha_number refl (entry alpha_abd alpha.Zero 3 c.before.args.idx c.in_default.keys2))
+    (λ c. meant alpha_number refl (entry alpha_abd alpha.Zero 3 c.before.args.idx c.in_default.keys3))
+    (λ c. meant alpha_number refl (entry alpha_abd alpha.Zero 3 c.before.args.idx c.in_default.keys4))
+    (λ c. meant alpha_number refl (entry alpha_abd alpha.Zero 3 c.before.args.idx c.in_default.keys5))
+    (λ c. meant alpha_number refl (entry alpha_abd alpha.Zero 3 c.before.args.idx c.in_default.keys6))
+    (λ c. meant alpha_number refl (entry alpha_abd alpha.Zero 3 c.before.args.idx c.in_default.keys7))
+    (λ c. meant alpha_number refl (rest alpha_abd alpha.Zero 3 c.before.args.idx c.in_default.rest)))

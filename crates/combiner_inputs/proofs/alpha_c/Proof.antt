@@ -8,16 +8,16 @@ use Rattle.combiner_inputs.proofs.Tables.{entry, rest}
 use Rattle.combiner_inputs.proofs.alpha_c.Statement.{statement}
 use Rattle.combiner_inputs.proofs.alpha_c.Tie as tie
 
-pub alpha-c-spec : {M : Type 1} → statement M
+pub alpha_c_spec : {M : Type 1} → statement M
 unfolding alpha_c
-alpha-c-spec =
+alpha_c_spec =
     tie.close
     (tie.spec
-    (λ c. meant alpha_number refl (entry alpha_c alpha.Zero 3 c.before.args.idx c.match.keys1))
-    (λ c. meant alpha_number refl (entry alpha_c alpha.Zero 3 c.before.args.idx c.match.keys2))
-    (λ c. meant alpha_number refl (entry alpha_c alpha.Zero 3 c.before.args.idx c.match.keys3))
-    (λ c. meant alpha_number refl (entry alpha_c alpha.Zero 3 c.before.args.idx c.match.keys4))
-    (λ c. meant alpha_number refl (entry alpha_c alpha.Zero 3 c.before.args.idx c.match.keys5))
-    (λ c. meant alpha_number refl (entry alpha_c alpha.Zero 3 c.before.args.idx c.match.keys6))
-    (λ c. meant alpha_number refl (entry alpha_c alpha.Zero 3 c.before.args.idx c.match.keys7))
-    (λ c. meant alpha_number refl (rest alpha_c alpha.Zero 3 c.before.args.idx c.match.rest)))
+    (λ c. meant alpha_number refl (entry alpha_c alpha.Zero 3 c.before.args.idx c.in_default.keys1))
+    (λ c. meant alpha_number refl (entry alpha_c alpha.Zero 3 c.before.args.idx c.in_default.keys2))
+    (λ c. meant alpha_number refl (entry alpha_c alpha.Zero 3 c.before.args.idx c.in_default.keys3))
+    (λ c. meant alpha_number refl (entry alpha_c alpha.Zero 3 c.before.args.idx c.in_default.keys4))
+    (λ c. meant alpha_number refl (entry alpha_c alpha.Zero 3 c.before.args.idx c.in_default.keys5))
+    (λ c. meant alpha_number refl (entry alpha_c alpha.Zero 3 c.before.args.idx c.in_default.keys6))
+    (λ c. meant alpha_number refl (entry alpha_c alpha.Zero 3 c.before.args.idx c.in_default.keys7))
+    (λ c. meant alpha_number refl (rest alpha_c alpha.Zero 3 c.before.args.idx c.in_default.rest)))

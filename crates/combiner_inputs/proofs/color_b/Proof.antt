@@ -8,17 +8,17 @@ use Rattle.combiner_inputs.proofs.Tables.{entry, rest}
 use Rattle.combiner_inputs.proofs.color_b.Statement.{statement}
 use Rattle.combiner_inputs.proofs.color_b.Tie as tie
 
-pub color-b-spec : {M : Type 1} → statement M
+pub color_b_spec : {M : Type 1} → statement M
 unfolding color_b
-color-b-spec =
+color_b_spec =
     tie.close
     (tie.spec
-    (λ c. meant color_number refl (entry color_b color.Zero 4 c.before.args.idx c.match.keys1))
-    (λ c. meant color_number refl (entry color_b color.Zero 4 c.before.args.idx c.match.keys2))
-    (λ c. meant color_number refl (entry color_b color.Zero 4 c.before.args.idx c.match.keys3))
-    (λ c. meant color_number refl (entry color_b color.Zero 4 c.before.args.idx c.match.keys4))
-    (λ c. meant color_number refl (entry color_b color.Zero 4 c.before.args.idx c.match.keys5))
-    (λ c. meant color_number refl (entry color_b color.Zero 4 c.before.args.idx c.match.keys6))
-    (λ c. meant color_number refl (entry color_b color.Zero 4 c.before.args.idx c.match.keys7))
-    (λ c. meant color_number refl (entry color_b color.Zero 4 c.before.args.idx c.match.keys8))
-    (λ c. meant color_number refl (rest color_b color.Zero 4 c.before.args.idx c.match.rest)))
+    (λ c. meant color_number refl (entry color_b color.Zero 4 c.before.args.idx c.in_default.keys1))
+    (λ c. meant color_number refl (entry color_b color.Zero 4 c.before.args.idx c.in_default.keys2))
+    (λ c. meant color_number refl (entry color_b color.Zero 4 c.before.args.idx c.in_default.keys3))
+    (λ c. meant color_number refl (entry color_b color.Zero 4 c.before.args.idx c.in_default.keys4))
+    (λ c. meant color_number refl (entry color_b color.Zero 4 c.before.args.idx c.in_default.keys5))
+    (λ c. meant color_number refl (entry color_b color.Zero 4 c.before.args.idx c.in_default.keys6))
+    (λ c. meant color_number refl (entry color_b color.Zero 4 c.before.args.idx c.in_default.keys7))
+    (λ c. meant color_number refl (entry color_b color.Zero 4 c.before.args.idx c.in_default.keys8))
+    (λ c. meant color_number refl (rest color_b color.Zero 4 c.before.args.idx c.in_default.rest)))

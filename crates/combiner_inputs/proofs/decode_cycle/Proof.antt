@@ -14,9 +14,9 @@ use Rattle.combiner_inputs.proofs.decode_cycle.Statement.{statement}
 use Rattle.combiner_inputs.proofs.decode_cycle.Tie as tie
 
 -- the first cycle
-returns : tie.Need-returns
+returns-then-not-second : tie.Need-returns-then-not-second
 unfolding cycle0
-returns c =
+returns-then-not-second c =
     let ac = c.before.before in
     let ab = ac.before.before in
     let aa = ab.before.before in
@@ -30,20 +30,20 @@ returns c =
     let low = lower args.l args.h branch.before.ranges.h.fits in
     (λ i.
     record {
-      ca = (ca.color-a.ensures.1 ∙ ap (select color_a color.Zero 4) (ca.before.bits.ensures ∙ up 20 4)) i;
-      cb = (cb.color-b.ensures.1 ∙ ap (select color_b color.Zero 4) (cb.before.bits2.ensures ∙ low 28 4 (lit≤ tt))) i;
-      cc = (cc.color-c.ensures.1 ∙ ap (select color_c color.Zero 5) (cc.before.bits3.ensures ∙ up 15 5)) i;
-      cd = (cd.color-d.ensures.1 ∙ ap (select color_d color.Zero 3) (cd.before.bits4.ensures ∙ low 15 3 (lit≤ tt))) i;
-      aa = (aa.alpha-abd.ensures.1 ∙ ap (select alpha_abd alpha.Zero 3) (aa.before.bits5.ensures ∙ up 12 3)) i;
-      ab = (ab.alpha-abd2.ensures.1 ∙ ap (select alpha_abd alpha.Zero 3) (ab.before.bits6.ensures ∙ low 12 3 (lit≤ tt))) i;
-      ac = (ac.alpha-c.ensures.1 ∙ ap (select alpha_c alpha.Zero 3) (ac.before.bits7.ensures ∙ up 9 3)) i;
-      ad = (c.alpha-abd3.ensures.1 ∙ ap (select alpha_abd alpha.Zero 3) (c.before.bits8.ensures ∙ low 9 3 (lit≤ tt))) i;
-    }) ∙ ap (λ (b : Bool). cycle_of b args.l args.h) (sym (not-true args.second branch.if1.true))
+      ca = (ca.color_a.ensures.1 ∙ ap (select color_a color.Zero 4) (ca.before.bits.ensures ∙ up 20 4)) i;
+      cb = (cb.color_b.ensures.1 ∙ ap (select color_b color.Zero 4) (cb.before.bits-then-not-second.ensures ∙ low 28 4 (lit≤ tt))) i;
+      cc = (cc.color_c.ensures.1 ∙ ap (select color_c color.Zero 5) (cc.before.bits-then-not-second-2.ensures ∙ up 15 5)) i;
+      cd = (cd.color_d.ensures.1 ∙ ap (select color_d color.Zero 3) (cd.before.bits-then-not-second-3.ensures ∙ low 15 3 (lit≤ tt))) i;
+      aa = (aa.alpha_abd.ensures.1 ∙ ap (select alpha_abd alpha.Zero 3) (aa.before.bits-then-not-second-4.ensures ∙ up 12 3)) i;
+      ab = (ab.alpha_abd-then-not-second.ensures.1 ∙ ap (select alpha_abd alpha.Zero 3) (ab.before.bits-then-not-second-5.ensures ∙ low 12 3 (lit≤ tt))) i;
+      ac = (ac.alpha_c.ensures.1 ∙ ap (select alpha_c alpha.Zero 3) (ac.before.bits-then-not-second-6.ensures ∙ up 9 3)) i;
+      ad = (c.alpha_abd-then-not-second-2.ensures.1 ∙ ap (select alpha_abd alpha.Zero 3) (c.before.bits-then-not-second-7.ensures ∙ low 9 3 (lit≤ tt))) i;
+    }) ∙ ap (λ (b : Bool). cycle_of b args.l args.h) (sym (not-true args.second branch.if-not-second.true))
 
 -- the second cycle
-returns-2 : tie.Need-returns-2
+returns-else-not-second : tie.Need-returns-else-not-second
 unfolding cycle1
-returns-2 c =
+returns-else-not-second c =
     let ac = c.before.before in
     let ab = ac.before.before in
     let aa = ab.before.before in
@@ -57,19 +57,19 @@ returns-2 c =
     let low = lower args.l args.h branch.before.ranges.h.fits in
     (λ i.
     record {
-      ca = (ca.color-a2.ensures.1 ∙ ap (select color_a color.Zero 4) (ca.before.bits9.ensures ∙ up 5 4)) i;
-      cb = (cb.color-b2.ensures.1 ∙ ap (select color_b color.Zero 4) (cb.before.bits10.ensures ∙ low 24 4 (lit≤ tt))) i;
-      cc = (cc.color-c2.ensures.1 ∙ ap (select color_c color.Zero 5) (cc.before.bits11.ensures ∙ up 0 5)) i;
-      cd = (cd.color-d2.ensures.1 ∙ ap (select color_d color.Zero 3) (cd.before.bits12.ensures ∙ low 6 3 (lit≤ tt))) i;
-      aa = (aa.alpha-abd4.ensures.1 ∙ ap (select alpha_abd alpha.Zero 3) (aa.before.bits13.ensures ∙ low 21 3 (lit≤ tt))) i;
-      ab = (ab.alpha-abd5.ensures.1 ∙ ap (select alpha_abd alpha.Zero 3) (ab.before.bits14.ensures ∙ low 3 3 (lit≤ tt))) i;
-      ac = (ac.alpha-c2.ensures.1 ∙ ap (select alpha_c alpha.Zero 3) (ac.before.bits15.ensures ∙ low 18 3 (lit≤ tt))) i;
-      ad = (c.alpha-abd6.ensures.1 ∙ ap (select alpha_abd alpha.Zero 3) (c.before.bits16.ensures ∙ low 0 3 (lit≤ tt))) i;
-    }) ∙ ap (λ (b : Bool). cycle_of b args.l args.h) (sym (not-false args.second branch.if1.false))
+      ca = (ca.color_a-else-not-second.ensures.1 ∙ ap (select color_a color.Zero 4) (ca.before.bits-else-not-second.ensures ∙ up 5 4)) i;
+      cb = (cb.color_b-else-not-second.ensures.1 ∙ ap (select color_b color.Zero 4) (cb.before.bits-else-not-second-2.ensures ∙ low 24 4 (lit≤ tt))) i;
+      cc = (cc.color_c-else-not-second.ensures.1 ∙ ap (select color_c color.Zero 5) (cc.before.bits-else-not-second-3.ensures ∙ up 0 5)) i;
+      cd = (cd.color_d-else-not-second.ensures.1 ∙ ap (select color_d color.Zero 3) (cd.before.bits-else-not-second-4.ensures ∙ low 6 3 (lit≤ tt))) i;
+      aa = (aa.alpha_abd-else-not-second.ensures.1 ∙ ap (select alpha_abd alpha.Zero 3) (aa.before.bits-else-not-second-5.ensures ∙ low 21 3 (lit≤ tt))) i;
+      ab = (ab.alpha_abd-else-not-second-2.ensures.1 ∙ ap (select alpha_abd alpha.Zero 3) (ab.before.bits-else-not-second-6.ensures ∙ low 3 3 (lit≤ tt))) i;
+      ac = (ac.alpha_c-else-not-second.ensures.1 ∙ ap (select alpha_c alpha.Zero 3) (ac.before.bits-else-not-second-7.ensures ∙ low 18 3 (lit≤ tt))) i;
+      ad = (c.alpha_abd-else-not-second-3.ensures.1 ∙ ap (select alpha_abd alpha.Zero 3) (c.before.bits-else-not-second-8.ensures ∙ low 0 3 (lit≤ tt))) i;
+    }) ∙ ap (λ (b : Bool). cycle_of b args.l args.h) (sym (not-false args.second branch.if-not-second.false))
 
 -- what `bits` requires of a place and a width, and what a table requires, which is nothing, is found by search
-pub decode-cycle-spec : {M : Type 1} → statement M
-decode-cycle-spec =
+pub decode_cycle_spec : {M : Type 1} → statement M
+decode_cycle_spec =
     tie.close
     (tie.spec
     (λ c κs. search rules)
@@ -104,5 +104,5 @@ decode-cycle-spec =
     (λ c κs. search rules)
     (λ c κs. search rules)
     (λ c κs. search rules)
-    returns
-    returns-2)
+    returns-then-not-second
+    returns-else-not-second)

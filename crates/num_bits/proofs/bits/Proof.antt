@@ -18,17 +18,17 @@ masked : (v k n : ℕ) → n < 32 → bit_and (v / 2 ^ k) (1 * 2 ^ n % 2 ^ 32 - 
 unfolding field
 masked v k n h = ap (λ (x : ℕ). bit_and (v / 2 ^ k) (x - 1)) (one_shifted n h) ∙ and_mask (v / 2 ^ k) n
 
-shr-result : tie.Need-overflow-shr-result
-shr-result c = search rules
+overflow_shr-result : tie.Need-overflow_shr-result
+overflow_shr-result c = search rules
 
-shl-result : tie.Need-overflow-shl-result
-shl-result c = search rules
+overflow_shl-result : tie.Need-overflow_shl-result
+overflow_shl-result c = search rules
 
-sub-result : tie.Need-overflow-sub-result
-sub-result c = let n = c.args.n in omega (arith, one_shifted n c.requires.1, pow_pos n)
+overflow_sub-result : tie.Need-overflow_sub-result
+overflow_sub-result c = let n = c.args.n in omega (arith, one_shifted n c.requires.1, pow_pos n)
 
 returns : tie.Need-returns
 returns c = masked c.args.v c.args.pos c.args.n c.requires.1
 
-pub bits-spec : {M : Type 1} → statement M
-bits-spec = tie.close (tie.spec shr-result shl-result sub-result returns)
+pub bits_spec : {M : Type 1} → statement M
+bits_spec = tie.close (tie.spec overflow_shr-result overflow_shl-result overflow_sub-result returns)

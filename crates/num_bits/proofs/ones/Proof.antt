@@ -7,11 +7,11 @@ use borrow.Author.Rules.{rules}
 use Rattle.num_bits.proofs.ones.Statement.{statement}
 use Rattle.num_bits.proofs.ones.Tie as tie
 
-cast-result : tie.Need-overflow-cast-result
-cast-result c = record { fits = lt_of_le_of_lt (ones-le 8 _ (omega arith)) (lit< tt) }
+overflow_cast-result : tie.Need-overflow_cast-result
+overflow_cast-result c = record { fits = lt_of_le_of_lt (ones-le 8 _ (omega arith)) (lit< tt) }
 
 returns : tie.Need-returns
 returns c = search rules
 
-pub ones-spec : {M : Type 1} → statement M
-ones-spec = tie.close (tie.spec cast-result returns)
+pub ones_spec : {M : Type 1} → statement M
+ones_spec = tie.close (tie.spec overflow_cast-result returns)

@@ -3,13 +3,13 @@ use lib.Ieee.{of_bits}
 use Rattle.num_float.proofs.above_zero.Statement.{statement}
 use Rattle.num_float.proofs.above_zero.Tie as tie
 
-returns : tie.Need-returns
+returns-then-v : tie.Need-returns-then-v
 unfolding of_bits
-returns c = simp c.if1.true
+returns-then-v c = simp c.if-v.true
 
-returns-2 : tie.Need-returns-2
+returns-else-v : tie.Need-returns-else-v
 unfolding of_bits
-returns-2 c = simp c.if1.false
+returns-else-v c = simp c.if-v.false
 
-pub above-zero-spec : {M : Type 1} → statement M
-above-zero-spec = tie.close (tie.spec returns returns-2)
+pub above_zero_spec : {M : Type 1} → statement M
+above_zero_spec = tie.close (tie.spec returns-then-v returns-else-v)

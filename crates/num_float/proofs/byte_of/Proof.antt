@@ -16,19 +16,19 @@ use Rattle.num_float.proofs.Bytes.{scaled_up, byte-of}
 use Rattle.num_float.proofs.byte_of.Statement.{statement}
 use Rattle.num_float.proofs.byte_of.Tie as tie
 
-above-zero-requires : tie.Need-above-zero-requires
-above-zero-requires c κs = search rules
+above_zero-requires : tie.Need-above_zero-requires
+above_zero-requires c κs = search rules
 
-up-to-requires : tie.Need-up-to-requires
-up-to-requires c κs = search rules
+up_to-requires : tie.Need-up_to-requires
+up_to-requires c κs = search rules
 
 -- the product, in the words of `byte-of`
-product : (c : tie.After-up-to) → mul binary32 c.up_to_lem.result (of_bits binary32 0x437f_0000) ≡ scaled_up c.before.before.args.v
+product : (c : tie.After-up_to) → mul binary32 c.up_to.result (of_bits binary32 0x437f_0000) ≡ scaled_up c.before.before.args.v
 unfolding of_bits
-product c = ap (λ (x : Float). mul binary32 x f255) (c.up_to_lem.ensures ∙ ap (λ (x : Float). upto f1 x) c.before.above_zero.ensures)
+product c = ap (λ (x : Float). mul binary32 x f255) (c.up_to.ensures ∙ ap (λ (x : Float). upto f1 x) c.before.above_zero.ensures)
 
-float-to-float-nearest : tie.Need-float-to-float-nearest
-float-to-float-nearest c =
+float_to_float-up_to : tie.Need-float_to_float-up_to
+float_to_float-up_to c =
     let v = c.before.before.before.args.v in
     let y = scaled_up v in
     subst (λ (x : Float). T (fits binary64 x && not (is_nan x))) (sym (product c.before)) (widens y (num y) (den y) (mul-fits binary32 (upto f1 (above0 v)) f255) (byte-of v).0.0)
@@ -43,12 +43,12 @@ nearest-requires c κs =
 answer : (c : tie.After-nearest) → c.nearest.result ≡ near (num (scaled_up c.before.before.before.before.args.v)) (den (scaled_up c.before.before.before.before.args.v))
 answer c = c.nearest.ensures ∙ ap (λ (x : Float). near (num x) (den x)) (product c.before.before)
 
-cast-result : tie.Need-overflow-cast-result
-cast-result c = omega (arith, answer c, (byte-of c.before.before.before.before.args.v).1)
+overflow_cast-result : tie.Need-overflow_cast-result
+overflow_cast-result c = omega (arith, answer c, (byte-of c.before.before.before.before.args.v).1)
 
 returns : tie.Need-returns
 returns c = answer c ∙ (byte-of c.before.before.before.before.args.v).2
 
-pub byte-of-spec : {M : Type 1} → statement M
-byte-of-spec =
-    tie.close (tie.spec above-zero-requires up-to-requires float-to-float-nearest nearest-requires cast-result returns)
+pub byte_of_spec : {M : Type 1} → statement M
+byte_of_spec =
+    tie.close (tie.spec above_zero-requires up_to-requires float_to_float-up_to nearest-requires overflow_cast-result returns)

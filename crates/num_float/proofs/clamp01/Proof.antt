@@ -3,17 +3,17 @@ use lib.Ieee.{of_bits}
 use Rattle.num_float.proofs.clamp01.Statement.{statement}
 use Rattle.num_float.proofs.clamp01.Tie as tie
 
-returns : tie.Need-returns
+returns-then-x : tie.Need-returns-then-x
 unfolding of_bits
-returns c = simp c.if1.true
+returns-then-x c = simp c.if-x.true
 
-returns-2 : tie.Need-returns-2
+returns-then-x-2 : tie.Need-returns-then-x-2
 unfolding of_bits
-returns-2 c = simp (c.before.if1.false, c.if2.true)
+returns-then-x-2 c = simp (c.before.if-x.false, c.if-x-2.true)
 
-returns-3 : tie.Need-returns-3
+returns-else-x-2 : tie.Need-returns-else-x-2
 unfolding of_bits
-returns-3 c = simp (c.before.if1.false, c.if2.false)
+returns-else-x-2 c = simp (c.before.if-x.false, c.if-x-2.false)
 
-pub clamp01-spec : {M : Type 1} → statement M
-clamp01-spec = tie.close (tie.spec returns returns-2 returns-3)
+pub clamp01_spec : {M : Type 1} → statement M
+clamp01_spec = tie.close (tie.spec returns-then-x returns-then-x-2 returns-else-x-2)

@@ -10,18 +10,18 @@ use Rattle.num_float.proofs.Index.{clip, floor-index}
 use Rattle.num_float.proofs.floor_index.Statement.{statement}
 use Rattle.num_float.proofs.floor_index.Tie as tie
 
-above-zero-requires : tie.Need-above-zero-requires
-above-zero-requires c κs = search rules
+above_zero-requires : tie.Need-above_zero-requires
+above_zero-requires c κs = search rules
 
-up-to-requires : tie.Need-up-to-requires
-up-to-requires c κs = search rules
+up_to-requires : tie.Need-up_to-requires
+up_to-requires c κs = search rules
 
-clip_is : (c : tie.After-up-to) → c.up_to_lem.result ≡ clip c.before.before.args.x
+clip_is : (c : tie.After-up_to) → c.up_to.result ≡ clip c.before.before.args.x
 unfolding of_bits
-clip_is c = c.up_to_lem.ensures ∙ ap (λ (x : Float). upto (top 17) x) c.before.above_zero.ensures
+clip_is c = c.up_to.ensures ∙ ap (λ (x : Float). upto (top 17) x) c.before.above_zero.ensures
 
-whole-part-requires : tie.Need-whole-part-requires
-whole-part-requires c κs =
+whole_part-requires : tie.Need-whole_part-requires
+whole_part-requires c κs =
     let i = floor-index c.before.before.args.x in
     subst Low (sym (clip_is c)) (i.0, i.1)
 
@@ -29,6 +29,6 @@ returns : tie.Need-returns
 returns c =
     c.whole_part.ensures ∙ ap (λ (z : Float). floor (num z) (den z)) (clip_is c.before) ∙ (floor-index c.before.before.before.args.x).2
 
-pub floor-index-spec : {M : Type 1} → statement M
-floor-index-spec =
-    tie.close (tie.spec above-zero-requires up-to-requires whole-part-requires returns)
+pub floor_index_spec : {M : Type 1} → statement M
+floor_index_spec =
+    tie.close (tie.spec above_zero-requires up_to-requires whole_part-requires returns)

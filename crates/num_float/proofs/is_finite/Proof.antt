@@ -19,13 +19,13 @@ not_below nan h = refl
 not_below (inf s) h = refl
 not_below (fin s m e) h = absurd (true≢false h)
 
-returns : tie.Need-returns
+returns-then-x : tie.Need-returns-then-x
 unfolding of_bits div neg
-returns c = below c.before.args.x c.if1.true
+returns-then-x c = below c.before.args.x c.if-x.true
 
-returns-2 : tie.Need-returns-2
+returns-else-x : tie.Need-returns-else-x
 unfolding of_bits div neg
-returns-2 c = c.if1.false ∙ not_below c.before.args.x c.if1.false
+returns-else-x c = c.if-x.false ∙ not_below c.before.args.x c.if-x.false
 
-pub is-finite-spec : {M : Type 1} → statement M
-is-finite-spec = tie.close (tie.spec returns returns-2)
+pub is_finite_spec : {M : Type 1} → statement M
+is_finite_spec = tie.close (tie.spec returns-then-x returns-else-x)

@@ -6,31 +6,31 @@ use Rattle.num_float.proofs.Values.{same_sign, zeros_by_sign}
 use Rattle.num_float.proofs.le_total.Statement.{statement}
 use Rattle.num_float.proofs.le_total.Tie as tie
 
-returns : tie.Need-returns
-returns c = simp c.if1.true
+returns-then-a-b : tie.Need-returns-then-a-b
+returns-then-a-b c = simp c.if-a-b.true
 
-returns-2 : tie.Need-returns-2
+returns-then-a-b-2 : tie.Need-returns-then-a-b-2
 unfolding ne
-returns-2 c =
+returns-then-a-b-2 c =
     let a = c.before.before.args.a in
     let b = c.before.before.args.b in
-    simp (c.before.if1.false, not-true (eq a b) c.if2.true)
+    simp (c.before.if-a-b.false, not-true (eq a b) c.if-a-b-2.true)
 
-returns-3 : tie.Need-returns-3
+returns-then-a : tie.Need-returns-then-a
 unfolding ne of_bits
-returns-3 c =
+returns-then-a c =
     let a = c.before.before.before.args.a in
     let b = c.before.before.before.args.b in
-    let e : eq a b ≡ _ = not-false _ c.before.if2.false in
-    simp (c.before.before.if1.false, e, same_sign a b e (not-true _ c.if3.true))
+    let e : eq a b ≡ _ = not-false _ c.before.if-a-b-2.false in
+    simp (c.before.before.if-a-b.false, e, same_sign a b e (not-true _ c.if-a.true))
 
-returns-4 : tie.Need-returns-4
+returns : tie.Need-returns
 unfolding ne of_bits
-returns-4 c =
+returns c =
     let a = c.before.before.before.args.a in
     let b = c.before.before.before.args.b in
-    let e : eq a b ≡ _ = not-false _ c.before.if2.false in
-    simp (c.before.before.if1.false, e) (zeros_by_sign a b e (not-false _ c.if3.false))
+    let e : eq a b ≡ _ = not-false _ c.before.if-a-b-2.false in
+    simp (c.before.before.if-a-b.false, e) (zeros_by_sign a b e (not-false _ c.if-a.false))
 
-pub le-total-spec : {M : Type 1} → statement M
-le-total-spec = tie.close (tie.spec returns returns-2 returns-3 returns-4)
+pub le_total_spec : {M : Type 1} → statement M
+le_total_spec = tie.close (tie.spec returns-then-a-b returns-then-a-b-2 returns-then-a returns)

@@ -3,13 +3,13 @@ use lib.Ieee.{of_bits}
 use Rattle.num_float.proofs.magnitude.Statement.{statement}
 use Rattle.num_float.proofs.magnitude.Tie as tie
 
-returns : tie.Need-returns
+returns-then-x : tie.Need-returns-then-x
 unfolding of_bits
-returns c = simp c.if1.true
+returns-then-x c = simp c.if-x.true
 
-returns-2 : tie.Need-returns-2
+returns-else-x : tie.Need-returns-else-x
 unfolding of_bits
-returns-2 c = simp c.if1.false
+returns-else-x c = simp c.if-x.false
 
-pub magnitude-spec : {M : Type 1} → statement M
-magnitude-spec = tie.close (tie.spec returns returns-2)
+pub magnitude_spec : {M : Type 1} → statement M
+magnitude_spec = tie.close (tie.spec returns-then-x returns-else-x)

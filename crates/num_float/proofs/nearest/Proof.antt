@@ -13,13 +13,13 @@ shows : (c : tie.Start) → Shows (add binary64 c.args.y (of_bits binary64 0x419
 unfolding of_bits
 shows c = near_shown c.args.y c.requires
 
-float-to-bits-result : tie.Need-float-to-bits-result
-float-to-bits-result c = (shows c).0
+float_to_bits-result : tie.Need-float_to_bits-result
+float_to_bits-result c = (shows c).0
 
 returns : tie.Need-returns
 returns c =
     let w = add binary64 c.args.y (of_bits binary64 0x4190_0000_0200_0000) in
     and_mask (to_bits binary64 w / 2 ^ 26) 26 ∙ (shows c).1
 
-pub nearest-spec : {M : Type 1} → statement M
-nearest-spec = tie.close (tie.spec float-to-bits-result returns)
+pub nearest_spec : {M : Type 1} → statement M
+nearest_spec = tie.close (tie.spec float_to_bits-result returns)

@@ -20,7 +20,7 @@ use Rattle.num_float.proofs.quarter.Statement.{statement}
 use Rattle.num_float.proofs.quarter.Tie as tie
 
 held : (c : tie.Start) → T (fits binary32 c.args.x)
-held c = passes (fits binary32 c.args.x) c.well-formed.0.1
+held c = passes (fits binary32 c.args.x) c.well_formed.0.1
 
 -- numbers up to 65536 as `i64`s, and their negatives
 small : (n : ℕ) → n ≤ 65536 → SFits w64 (pos n)
@@ -36,75 +36,75 @@ less n h = ap (λ (z : ℤ). pos 0 -ℤ z) (to_z_pos w64 (small n h).sfits) ∙ 
 magnitude-requires : tie.Need-magnitude-requires
 magnitude-requires c κs = search rules
 
-above-zero-requires : tie.Need-above-zero-requires
-above-zero-requires c κs = search rules
+above_zero-requires : tie.Need-above_zero-requires
+above_zero-requires c κs = search rules
 
-up-to-requires : tie.Need-up-to-requires
-up-to-requires c κs = search rules
+up_to-requires : tie.Need-up_to-requires
+up_to-requires c κs = search rules
 
 -- what is cut off, and the product, in the words of `Fourfold`
-cut_is : (c : tie.After-up-to) → c.up_to_lem.result ≡ cut_size c.before.before.before.args.x
+cut_is : (c : tie.After-up_to) → c.up_to.result ≡ cut_size c.before.before.before.args.x
 unfolding of_bits
-cut_is c = c.up_to_lem.ensures ∙ ap (λ (x : Float). upto (top 14) x) (c.before.above_zero.ensures ∙ ap above0 c.before.before.magnitude.ensures)
+cut_is c = c.up_to.ensures ∙ ap (λ (x : Float). upto (top 14) x) (c.before.above_zero.ensures ∙ ap above0 c.before.before.magnitude.ensures)
 
-product : (c : tie.After-up-to) → mul binary64 c.up_to_lem.result (of_bits binary64 0x4010_0000_0000_0000) ≡ quarters c.before.before.before.args.x
+product : (c : tie.After-up_to) → mul binary64 c.up_to.result (of_bits binary64 0x4010_0000_0000_0000) ≡ quarters c.before.before.before.args.x
 unfolding of_bits
 product c = ap (λ (x : Float). mul binary64 x f4) (cut_is c)
 
-float-to-float-nearest : tie.Need-float-to-float-nearest
-float-to-float-nearest c =
+float_to_float-up_to : tie.Need-float_to_float-up_to
+float_to_float-up_to c =
     let start = c.before.before.before.before in
     let z = cut_size start.args.x in
     subst (λ (y : Float). T (fits binary64 y && not (is_nan y))) (sym (cut_is c.before)) (widens z (num z) (den z) (cut_fits start.args.x (held start)) (cut_value start.args.x))
 
-nearest-requires : tie.Need-nearest-requires
-nearest-requires c κs =
+nearest-n-requires : tie.Need-nearest-n-requires
+nearest-n-requires c κs =
     let start = c.before.before.before.before in
     subst LowCoarse (sym (product c.before)) (quarters_near start.args.x (held start)).0
 
-answer : (c : tie.After-nearest) → c.nearest.result ≡ size_of c.before.before.before.before.before.args.x
+answer : (c : tie.After-nearest-n) → c.nearest-n.result ≡ size_of c.before.before.before.before.before.args.x
 answer c =
     let start = c.before.before.before.before.before in
-    c.nearest.ensures ∙ ap (λ (x : Float). near (num x) (den x)) (product c.before.before) ∙ (quarters_near start.args.x (held start)).1
+    c.nearest-n.ensures ∙ ap (λ (x : Float). near (num x) (den x)) (product c.before.before) ∙ (quarters_near start.args.x (held start)).1
 
-answer_small : (c : tie.After-nearest) → c.nearest.result ≤ 65536
+answer_small : (c : tie.After-nearest-n) → c.nearest-n.result ≤ 65536
 answer_small c = subst (λ (n : ℕ). n ≤ 65536) (sym (answer c)) (size_of_le c.before.before.before.before.before.args.x)
 
-cast-n : tie.Need-overflow-cast-n
-cast-n c = small c.nearest.result (answer_small c)
+overflow_cast-n : tie.Need-overflow_cast-n
+overflow_cast-n c = small c.nearest-n.result (answer_small c)
 
-sub-result : tie.Need-overflow-sub-result
-sub-result c =
-    let n = c.before.nearest.result in
+overflow_sub-result : tie.Need-overflow_sub-result
+overflow_sub-result c =
+    let n = c.before.nearest-n.result in
     subst (SFits w64) (sym (less n (answer_small c.before))) (small_neg n (answer_small c.before))
 
-returns : tie.Need-returns
+returns-then-x : tie.Need-returns-then-x
 unfolding of_bits
-returns c =
+returns-then-x c =
     let x = c.before.before.before.before.before.before.args.x in
-    to_z-of_z (sub-result c)
-    ∙ less c.before.nearest.result (answer_small c.before)
+    to_z-of_z (overflow_sub-result c)
+    ∙ less c.before.nearest-n.result (answer_small c.before)
     ∙ ap (λ (n : ℕ). neg_ℤ (pos n)) (answer c.before)
-    ∙ quarter_below x c.if1.true
+    ∙ quarter_below x c.if-x.true
 
-returns-2 : tie.Need-returns-2
+returns-else-x : tie.Need-returns-else-x
 unfolding of_bits
-returns-2 c =
+returns-else-x c =
     let x = c.before.before.before.before.before.before.args.x in
-    to_z_pos w64 (small c.before.nearest.result (answer_small c.before)).sfits
+    to_z_pos w64 (small c.before.nearest-n.result (answer_small c.before)).sfits
     ∙ ap pos (answer c.before)
-    ∙ quarter_above x c.if1.false
+    ∙ quarter_above x c.if-x.false
 
-pub quarter-spec : {M : Type 1} → statement M
-quarter-spec =
+pub quarter_spec : {M : Type 1} → statement M
+quarter_spec =
     tie.close
     (tie.spec
     magnitude-requires
-    above-zero-requires
-    up-to-requires
-    float-to-float-nearest
-    nearest-requires
-    cast-n
-    sub-result
-    returns
-    returns-2)
+    above_zero-requires
+    up_to-requires
+    float_to_float-up_to
+    nearest-n-requires
+    overflow_cast-n
+    overflow_sub-result
+    returns-then-x
+    returns-else-x)

@@ -2,11 +2,11 @@
 use Rattle.num_float.proofs.up_to.Statement.{statement}
 use Rattle.num_float.proofs.up_to.Tie as tie
 
-returns : tie.Need-returns
-returns c = simp c.if1.true
+returns-then-v-top : tie.Need-returns-then-v-top
+returns-then-v-top c = simp c.if-v-top.true
 
-returns-2 : tie.Need-returns-2
-returns-2 c = simp c.if1.false
+returns-else-v-top : tie.Need-returns-else-v-top
+returns-else-v-top c = simp c.if-v-top.false
 
-pub up-to-spec : {M : Type 1} → statement M
-up-to-spec = tie.close (tie.spec returns returns-2)
+pub up_to_spec : {M : Type 1} → statement M
+up_to_spec = tie.close (tie.spec returns-then-v-top returns-else-v-top)
