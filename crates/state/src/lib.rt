@@ -3,7 +3,7 @@
 
 // Red, green, blue and alpha.
 #[repr(C)]
-#[derive(Drop)]
+#[derive(Clone, Copy)]
 pub struct Rgba {
     pub r: f32,
     pub g: f32,
@@ -11,7 +11,7 @@ pub struct Rgba {
     pub a: f32,
 }
 
-#[derive(Drop)]
+#[derive(Clone, Copy)]
 pub enum BlendClass {
     Replace,
     BlendColor,
@@ -19,7 +19,7 @@ pub enum BlendClass {
     DualSrc,
 }
 
-#[derive(Drop)]
+#[derive(Clone, Copy)]
 pub enum ZMode {
     Opa,
     Inter,
@@ -27,14 +27,14 @@ pub enum ZMode {
     Decal,
 }
 
-#[derive(Drop)]
+#[derive(Clone, Copy)]
 pub enum AlphaCompare {
     None,
     Threshold,
     Dither,
 }
 
-#[derive(Drop)]
+#[derive(Clone, Copy)]
 pub struct RenderMode {
     pub cycle_type: u32,
     pub rgb_dither: u8,
@@ -60,7 +60,7 @@ pub struct RenderMode {
 }
 
 #[repr(C)]
-#[derive(Drop)]
+#[derive(Clone, Copy)]
 pub struct CombinerUniform {
     pub combine_l: u32,
     pub combine_h: u32,

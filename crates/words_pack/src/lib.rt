@@ -8,7 +8,7 @@ ghost use Rattle.words_pack.specs.Depth.{deepest, range, Within, word_in, depth_
 ghost use Rattle.words_pack.specs.Writer.{supported_of, pixel_bytes_of, bytes_of, literal_of, bits_of, color_of, encode_of};
 
 // An image's format and size of a pixel, as Set Color Image numbers them, and its width in pixels.
-#[derive(Drop)]
+#[derive(Clone, Copy)]
 pub struct ImageLayout {
     pub fmt: u8,
     pub siz: u8,
@@ -16,27 +16,27 @@ pub struct ImageLayout {
 }
 
 // What writes an image: colours, or depths where `depth` is set.
-#[derive(Drop)]
+#[derive(Clone, Copy)]
 pub struct Writer {
     pub layout: ImageLayout,
     pub depth: bool,
 }
 
 // The order of a word's two bytes. Native is the little-endian host's.
-#[derive(Drop)]
+#[derive(Clone, Copy)]
 pub enum FramebufferEncoding {
     Native,
     BigEndian,
 }
 
 // A draw's literal word, if it has one.
-#[derive(Drop)]
+#[derive(Clone, Copy)]
 pub enum Literal {
     Absent,
     Word(u32),
 }
 
-#[derive(Drop)]
+#[derive(Clone, Copy)]
 pub struct Rgba8 {
     pub r: u8,
     pub g: u8,
@@ -45,7 +45,7 @@ pub struct Rgba8 {
 }
 
 // Two bytes of memory, the lower address first.
-#[derive(Drop)]
+#[derive(Clone, Copy)]
 pub struct Bytes2(pub u8, pub u8);
 
 // Dither thresholds of four rows of four pixels. Noise has no reproducible guest RNG and takes the magic square too.

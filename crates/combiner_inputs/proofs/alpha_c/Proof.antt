@@ -13,11 +13,11 @@ unfolding alpha_c
 alpha_c_spec =
     tie.close
     (tie.spec
-    (λ c. meant alpha_number refl (entry alpha_c alpha.Zero 3 c.before.args.idx c.in_default.keys1))
-    (λ c. meant alpha_number refl (entry alpha_c alpha.Zero 3 c.before.args.idx c.in_default.keys2))
-    (λ c. meant alpha_number refl (entry alpha_c alpha.Zero 3 c.before.args.idx c.in_default.keys3))
-    (λ c. meant alpha_number refl (entry alpha_c alpha.Zero 3 c.before.args.idx c.in_default.keys4))
-    (λ c. meant alpha_number refl (entry alpha_c alpha.Zero 3 c.before.args.idx c.in_default.keys5))
-    (λ c. meant alpha_number refl (entry alpha_c alpha.Zero 3 c.before.args.idx c.in_default.keys6))
-    (λ c. meant alpha_number refl (entry alpha_c alpha.Zero 3 c.before.args.idx c.in_default.keys7))
-    (λ c. meant alpha_number refl (rest alpha_c alpha.Zero 3 c.before.args.idx c.in_default.rest)))
+    (λ c. meant alpha_number refl (entry alpha_c alpha.Zero 3 c.args.idx c.in-0.is))
+    (λ c. meant alpha_number refl (entry alpha_c alpha.Zero 3 c.args.idx c.in-1.is))
+    (λ c. meant alpha_number refl (entry alpha_c alpha.Zero 3 c.args.idx c.in-2.is))
+    (λ c. meant alpha_number refl (entry alpha_c alpha.Zero 3 c.args.idx c.in-3.is))
+    (λ c. meant alpha_number refl (entry alpha_c alpha.Zero 3 c.args.idx c.in-4.is))
+    (λ c. meant alpha_number refl (entry alpha_c alpha.Zero 3 c.args.idx c.in-5.is))
+    (λ c. meant alpha_number refl (entry alpha_c alpha.Zero 3 c.args.idx c.in-6.is))
+    (λ c. meant alpha_number refl (rest alpha_c alpha.Zero 3 c.args.idx c.in_default.in_default-own.rest)))

@@ -13,12 +13,12 @@ unfolding color_b
 color_b_spec =
     tie.close
     (tie.spec
-    (λ c. meant color_number refl (entry color_b color.Zero 4 c.before.args.idx c.in_default.keys1))
-    (λ c. meant color_number refl (entry color_b color.Zero 4 c.before.args.idx c.in_default.keys2))
-    (λ c. meant color_number refl (entry color_b color.Zero 4 c.before.args.idx c.in_default.keys3))
-    (λ c. meant color_number refl (entry color_b color.Zero 4 c.before.args.idx c.in_default.keys4))
-    (λ c. meant color_number refl (entry color_b color.Zero 4 c.before.args.idx c.in_default.keys5))
-    (λ c. meant color_number refl (entry color_b color.Zero 4 c.before.args.idx c.in_default.keys6))
-    (λ c. meant color_number refl (entry color_b color.Zero 4 c.before.args.idx c.in_default.keys7))
-    (λ c. meant color_number refl (entry color_b color.Zero 4 c.before.args.idx c.in_default.keys8))
-    (λ c. meant color_number refl (rest color_b color.Zero 4 c.before.args.idx c.in_default.rest)))
+    (λ c. meant color_number refl (entry color_b color.Zero 4 c.args.idx c.in-0.is))
+    (λ c. meant color_number refl (entry color_b color.Zero 4 c.args.idx c.in-1.is))
+    (λ c. meant color_number refl (entry color_b color.Zero 4 c.args.idx c.in-2.is))
+    (λ c. meant color_number refl (entry color_b color.Zero 4 c.args.idx c.in-3.is))
+    (λ c. meant color_number refl (entry color_b color.Zero 4 c.args.idx c.in-4.is))
+    (λ c. meant color_number refl (entry color_b color.Zero 4 c.args.idx c.in-5.is))
+    (λ c. meant color_number refl (entry color_b color.Zero 4 c.args.idx c.in-6.is))
+    (λ c. meant color_number refl (entry color_b color.Zero 4 c.args.idx c.in-7.is))
+    (λ c. meant color_number refl (rest color_b color.Zero 4 c.args.idx c.in_default.in_default-own.rest)))

@@ -25,20 +25,20 @@ returns-then-not-second c =
     let cb = cc.before.before in
     let ca = cb.before.before in
     let branch = ca.before.before in
-    let args = branch.before.args in
-    let up = upper args.l args.h branch.before.ranges.h.fits in
-    let low = lower args.l args.h branch.before.ranges.h.fits in
+    let args = branch.args in
+    let up = upper args.l args.h branch.ranges.h.fits in
+    let low = lower args.l args.h branch.ranges.h.fits in
     (λ i.
     record {
-      ca = (ca.color_a.ensures.1 ∙ ap (select color_a color.Zero 4) (ca.before.bits.ensures ∙ up 20 4)) i;
-      cb = (cb.color_b.ensures.1 ∙ ap (select color_b color.Zero 4) (cb.before.bits-then-not-second.ensures ∙ low 28 4 (lit≤ tt))) i;
-      cc = (cc.color_c.ensures.1 ∙ ap (select color_c color.Zero 5) (cc.before.bits-then-not-second-2.ensures ∙ up 15 5)) i;
-      cd = (cd.color_d.ensures.1 ∙ ap (select color_d color.Zero 3) (cd.before.bits-then-not-second-3.ensures ∙ low 15 3 (lit≤ tt))) i;
-      aa = (aa.alpha_abd.ensures.1 ∙ ap (select alpha_abd alpha.Zero 3) (aa.before.bits-then-not-second-4.ensures ∙ up 12 3)) i;
-      ab = (ab.alpha_abd-then-not-second.ensures.1 ∙ ap (select alpha_abd alpha.Zero 3) (ab.before.bits-then-not-second-5.ensures ∙ low 12 3 (lit≤ tt))) i;
-      ac = (ac.alpha_c.ensures.1 ∙ ap (select alpha_c alpha.Zero 3) (ac.before.bits-then-not-second-6.ensures ∙ up 9 3)) i;
-      ad = (c.alpha_abd-then-not-second-2.ensures.1 ∙ ap (select alpha_abd alpha.Zero 3) (c.before.bits-then-not-second-7.ensures ∙ low 9 3 (lit≤ tt))) i;
-    }) ∙ ap (λ (b : Bool). cycle_of b args.l args.h) (sym (not-true args.second branch.if-not-second.true))
+      ca = (ca.color_a.ensures.1 ∙ ap (select color_a color.Zero 4) (ca.bits.ensures ∙ up 20 4)) i;
+      cb = (cb.color_b.ensures.1 ∙ ap (select color_b color.Zero 4) (cb.bits-then-not-second.ensures ∙ low 28 4 (lit≤ tt))) i;
+      cc = (cc.color_c.ensures.1 ∙ ap (select color_c color.Zero 5) (cc.bits-then-not-second-2.ensures ∙ up 15 5)) i;
+      cd = (cd.color_d.ensures.1 ∙ ap (select color_d color.Zero 3) (cd.bits-then-not-second-3.ensures ∙ low 15 3 (lit≤ tt))) i;
+      aa = (aa.alpha_abd.ensures.1 ∙ ap (select alpha_abd alpha.Zero 3) (aa.bits-then-not-second-4.ensures ∙ up 12 3)) i;
+      ab = (ab.alpha_abd-then-not-second.ensures.1 ∙ ap (select alpha_abd alpha.Zero 3) (ab.bits-then-not-second-5.ensures ∙ low 12 3 (lit≤ tt))) i;
+      ac = (ac.alpha_c.ensures.1 ∙ ap (select alpha_c alpha.Zero 3) (ac.bits-then-not-second-6.ensures ∙ up 9 3)) i;
+      ad = (c.alpha_abd-then-not-second-2.ensures.1 ∙ ap (select alpha_abd alpha.Zero 3) (c.bits-then-not-second-7.ensures ∙ low 9 3 (lit≤ tt))) i;
+    }) ∙ ap (λ (b : Bool). cycle_of b args.l args.h) (sym (branch.if-not-second.true))
 
 -- the second cycle
 returns-else-not-second : tie.Need-returns-else-not-second
@@ -52,20 +52,20 @@ returns-else-not-second c =
     let cb = cc.before.before in
     let ca = cb.before.before in
     let branch = ca.before.before in
-    let args = branch.before.args in
-    let up = upper args.l args.h branch.before.ranges.h.fits in
-    let low = lower args.l args.h branch.before.ranges.h.fits in
+    let args = branch.args in
+    let up = upper args.l args.h branch.ranges.h.fits in
+    let low = lower args.l args.h branch.ranges.h.fits in
     (λ i.
     record {
-      ca = (ca.color_a-else-not-second.ensures.1 ∙ ap (select color_a color.Zero 4) (ca.before.bits-else-not-second.ensures ∙ up 5 4)) i;
-      cb = (cb.color_b-else-not-second.ensures.1 ∙ ap (select color_b color.Zero 4) (cb.before.bits-else-not-second-2.ensures ∙ low 24 4 (lit≤ tt))) i;
-      cc = (cc.color_c-else-not-second.ensures.1 ∙ ap (select color_c color.Zero 5) (cc.before.bits-else-not-second-3.ensures ∙ up 0 5)) i;
-      cd = (cd.color_d-else-not-second.ensures.1 ∙ ap (select color_d color.Zero 3) (cd.before.bits-else-not-second-4.ensures ∙ low 6 3 (lit≤ tt))) i;
-      aa = (aa.alpha_abd-else-not-second.ensures.1 ∙ ap (select alpha_abd alpha.Zero 3) (aa.before.bits-else-not-second-5.ensures ∙ low 21 3 (lit≤ tt))) i;
-      ab = (ab.alpha_abd-else-not-second-2.ensures.1 ∙ ap (select alpha_abd alpha.Zero 3) (ab.before.bits-else-not-second-6.ensures ∙ low 3 3 (lit≤ tt))) i;
-      ac = (ac.alpha_c-else-not-second.ensures.1 ∙ ap (select alpha_c alpha.Zero 3) (ac.before.bits-else-not-second-7.ensures ∙ low 18 3 (lit≤ tt))) i;
-      ad = (c.alpha_abd-else-not-second-3.ensures.1 ∙ ap (select alpha_abd alpha.Zero 3) (c.before.bits-else-not-second-8.ensures ∙ low 0 3 (lit≤ tt))) i;
-    }) ∙ ap (λ (b : Bool). cycle_of b args.l args.h) (sym (not-false args.second branch.if-not-second.false))
+      ca = (ca.color_a-else-not-second.ensures.1 ∙ ap (select color_a color.Zero 4) (ca.bits-else-not-second.ensures ∙ up 5 4)) i;
+      cb = (cb.color_b-else-not-second.ensures.1 ∙ ap (select color_b color.Zero 4) (cb.bits-else-not-second-2.ensures ∙ low 24 4 (lit≤ tt))) i;
+      cc = (cc.color_c-else-not-second.ensures.1 ∙ ap (select color_c color.Zero 5) (cc.bits-else-not-second-3.ensures ∙ up 0 5)) i;
+      cd = (cd.color_d-else-not-second.ensures.1 ∙ ap (select color_d color.Zero 3) (cd.bits-else-not-second-4.ensures ∙ low 6 3 (lit≤ tt))) i;
+      aa = (aa.alpha_abd-else-not-second.ensures.1 ∙ ap (select alpha_abd alpha.Zero 3) (aa.bits-else-not-second-5.ensures ∙ low 21 3 (lit≤ tt))) i;
+      ab = (ab.alpha_abd-else-not-second-2.ensures.1 ∙ ap (select alpha_abd alpha.Zero 3) (ab.bits-else-not-second-6.ensures ∙ low 3 3 (lit≤ tt))) i;
+      ac = (ac.alpha_c-else-not-second.ensures.1 ∙ ap (select alpha_c alpha.Zero 3) (ac.bits-else-not-second-7.ensures ∙ low 18 3 (lit≤ tt))) i;
+      ad = (c.alpha_abd-else-not-second-3.ensures.1 ∙ ap (select alpha_abd alpha.Zero 3) (c.bits-else-not-second-8.ensures ∙ low 0 3 (lit≤ tt))) i;
+    }) ∙ ap (λ (b : Bool). cycle_of b args.l args.h) (sym (branch.if-not-second.false))
 
 -- what `bits` requires of a place and a width, and what a table requires, which is nothing, is found by search
 pub decode_cycle_spec : {M : Type 1} → statement M
