@@ -1,5 +1,7 @@
+#![tactic(auto)]
+
 // A part of a row or of the rows: from start up to end, end left out.
-#[derive(Drop)]
+#[derive(Clone, Copy)]
 pub struct Range {
     pub start: u32,
     pub end: u32,
