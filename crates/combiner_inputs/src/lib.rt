@@ -7,7 +7,7 @@ ghost use Rattle.combiner_inputs.specs.Inputs.{color_number, alpha_number};
 use num_bits::bits;
 
 // What a colour slot can read.
-#[derive(Drop)]
+#[derive(Clone, Copy)]
 pub enum ColorIn {
     Combined,
     Texel0,
@@ -33,7 +33,7 @@ pub enum ColorIn {
 }
 
 // What an alpha slot can read.
-#[derive(Drop)]
+#[derive(Clone, Copy)]
 pub enum AlphaIn {
     Combined,
     Texel0,
@@ -48,7 +48,7 @@ pub enum AlphaIn {
 }
 
 // One cycle's selectors: each channel is (a - b) * c + d.
-#[derive(Drop)]
+#[derive(Clone, Copy)]
 pub struct CycleSel {
     pub ca: ColorIn,
     pub cb: ColorIn,
@@ -61,7 +61,7 @@ pub struct CycleSel {
 }
 
 // Both cycles' selectors, and the two words that they were taken from.
-#[derive(Drop)]
+#[derive(Clone, Copy)]
 pub struct CombinerSelectors {
     pub raw_l: u32,
     pub raw_h: u32,
