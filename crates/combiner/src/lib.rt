@@ -1,4 +1,6 @@
 // The colour combiner of writeback.rs: a draw's constants and selectors, and the colour that they give for a shade.
+#![tactic(auto)]
+
 ghost use Rattle.std.specs.Prelude.{◌≡◌};
 ghost use Rattle.combiner.specs.Combine.{element, color_input, alpha_input, mixed, full_shade, channel_at, alpha_at, color_of};
 ghost use Rattle.combiner.specs.Strict.{zero_color, zero_alpha, constant_color, constant_alpha, flat, pure, filled, word_of, strict_of};
@@ -8,7 +10,7 @@ ghost use Rattle.combiner.specs.Means.{made_means, new_call, color_means, color_
 use combiner_inputs::{AlphaIn, ColorIn, CycleSel};
 use state::{AlphaCompare, BlendClass, CombinerUniform, RenderMode, Rgba};
 
-#[derive(Drop)]
+#[derive(Clone, Copy)]
 pub struct Combiner {
     pub selectors: CycleSel,
     pub prim: Rgba,
@@ -19,28 +21,28 @@ pub struct Combiner {
 }
 
 // One number, or none: the Rust's Option<f32>.
-#[derive(Drop)]
+#[derive(Clone, Copy)]
 pub enum Input {
     Value(f32),
     Refused,
 }
 
 // Red, green, blue and alpha, or none: the Rust's Option<[f32; 4]>.
-#[derive(Drop)]
+#[derive(Clone, Copy)]
 pub enum Color {
     Value(f32, f32, f32, f32),
     Refused,
 }
 
 // A colour word, or none: the Rust's Option<u16>.
-#[derive(Drop)]
+#[derive(Clone, Copy)]
 pub enum Strict {
     Word(u16),
     Nothing,
 }
 
 // A combiner, or none: the Rust's Option<Combiner>.
-#[derive(Drop)]
+#[derive(Clone, Copy)]
 pub enum Made {
     With(Combiner),
     Without,

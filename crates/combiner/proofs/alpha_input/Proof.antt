@@ -10,61 +10,61 @@ use borrow.Author.Rules.{rules}
 use Rattle.combiner.proofs.alpha_input.Statement.{statement}
 use Rattle.combiner.proofs.alpha_input.Tie as tie
 
-enum_told : tie.Need-enum-told
-enum_told c = search rules
+enum_told-1 : tie.Need-enum_told-1
+enum_told-1 c = search rules
 
-enum-told-2 : tie.Need-enum-told-2
-enum-told-2 c = search rules
+enum_told-in-Environment : tie.Need-enum_told-in-Environment
+enum_told-in-Environment c = search rules
 
-enum-told-3 : tie.Need-enum-told-3
-enum-told-3 c = search rules
+enum_told-in-Shade : tie.Need-enum_told-in-Shade
+enum_told-in-Shade c = search rules
 
-enum-told-4 : tie.Need-enum-told-4
-enum-told-4 c = search rules
+enum_told-in-PrimLodFrac : tie.Need-enum_told-in-PrimLodFrac
+enum_told-in-PrimLodFrac c = search rules
 
 abbrev at : tie.Start → AlphaIn → Input
 at s x = alpha_input s.args.combiner x s.args.shade
 
-returns : tie.Need-returns
+returns-in-Zero : tie.Need-returns-in-Zero
 unfolding of_bits alpha_input alphas
-returns c = alpha_one_of (at c.before) (5 ∷ 0 ∷ []) c.before.args.input c.match.keys1 refl
+returns-in-Zero c = alpha_one_of (at c.before) (5 ∷ 0 ∷ []) c.args.input c.in-Zero.in-Zero-own.keys1 refl
 
-returns-2 : tie.Need-returns-2
+returns-in-One : tie.Need-returns-in-One
 unfolding of_bits alpha_input alphas
-returns-2 c = alpha_one_of (at c.before) (6 ∷ 8 ∷ []) c.before.args.input c.match.keys2 refl
+returns-in-One c = alpha_one_of (at c.before) (6 ∷ 8 ∷ []) c.args.input c.in-One.in-One-own.keys2 refl
 
-returns-3 : tie.Need-returns-3
+returns-in-Primitive : tie.Need-returns-in-Primitive
 unfolding alpha_input
-returns-3 c = sym (ap (at c.before.before) c.enum_told.given.1)
+returns-in-Primitive c = sym (ap (at c.before) c.in-Primitive.is)
 
-returns-4 : tie.Need-returns-4
+returns-in-Environment : tie.Need-returns-in-Environment
 unfolding alpha_input
-returns-4 c = sym (ap (at c.before.before) c.enum-told2.given.1)
+returns-in-Environment c = sym (ap (at c.before) c.in-Environment.is)
 
-returns-5 : tie.Need-returns-5
+returns-in-Shade : tie.Need-returns-in-Shade
 unfolding alpha_input
-returns-5 c = sym (ap (at c.before.before) c.enum-told3.given.1)
+returns-in-Shade c = sym (ap (at c.before) c.in-Shade.is)
 
-returns-6 : tie.Need-returns-6
+returns-in-PrimLodFrac : tie.Need-returns-in-PrimLodFrac
 unfolding alpha_input
-returns-6 c = sym (ap (at c.before.before) c.enum-told4.given.1)
+returns-in-PrimLodFrac c = sym (ap (at c.before) c.in-PrimLodFrac.is)
 
-returns-7 : tie.Need-returns-7
+returns-in_default : tie.Need-returns-in_default
 unfolding alpha_input alphas
-returns-7 c = alpha_one_of (at c.before) (others 10 (5 ∷ 0 ∷ 6 ∷ 8 ∷ 2 ∷ 4 ∷ 3 ∷ 9 ∷ [])) c.before.args.input c.match.keys7 refl
+returns-in_default c = alpha_one_of (at c.before) (others 10 (5 ∷ 0 ∷ 6 ∷ 8 ∷ 2 ∷ 4 ∷ 3 ∷ 9 ∷ [])) c.args.input c.in_default.in_default-own.keys7 refl
 
-pub alpha-input-spec : {M : Type 1} → statement M
-alpha-input-spec =
+pub alpha_input_spec : {M : Type 1} → statement M
+alpha_input_spec =
     tie.close
     (tie.spec
-    enum_told
-    enum-told-2
-    enum-told-3
-    enum-told-4
-    returns
-    returns-2
-    returns-3
-    returns-4
-    returns-5
-    returns-6
-    returns-7)
+    enum_told-1
+    enum_told-in-Environment
+    enum_told-in-Shade
+    enum_told-in-PrimLodFrac
+    returns-in-Zero
+    returns-in-One
+    returns-in-Primitive
+    returns-in-Environment
+    returns-in-Shade
+    returns-in-PrimLodFrac
+    returns-in_default)

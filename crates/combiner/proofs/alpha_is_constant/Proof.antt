@@ -7,13 +7,13 @@ use Rattle.combiner.proofs.Tags.{others, alphas, alpha_one_of}
 use Rattle.combiner.proofs.alpha_is_constant.Statement.{statement}
 use Rattle.combiner.proofs.alpha_is_constant.Tie as tie
 
-returns : tie.Need-returns
+returns-in-Primitive : tie.Need-returns-in-Primitive
 unfolding constant_alpha alpha_number alphas
-returns c = alpha_one_of constant_alpha (2 ∷ 4 ∷ 6 ∷ []) c.before.args.input c.match.keys1 refl
+returns-in-Primitive c = alpha_one_of constant_alpha (2 ∷ 4 ∷ 6 ∷ []) c.args.input c.in-Primitive.in-Primitive-own.keys1 refl
 
-returns-2 : tie.Need-returns-2
+returns-in_default : tie.Need-returns-in_default
 unfolding constant_alpha alpha_number alphas
-returns-2 c = alpha_one_of constant_alpha (others 10 (2 ∷ 4 ∷ 6 ∷ [])) c.before.args.input c.match.keys2 refl
+returns-in_default c = alpha_one_of constant_alpha (others 10 (2 ∷ 4 ∷ 6 ∷ [])) c.args.input c.in_default.in_default-own.keys2 refl
 
-pub alpha-is-constant-spec : {M : Type 1} → statement M
-alpha-is-constant-spec = tie.close (tie.spec returns returns-2)
+pub alpha_is_constant_spec : {M : Type 1} → statement M
+alpha_is_constant_spec = tie.close (tie.spec returns-in-Primitive returns-in_default)

@@ -5,35 +5,35 @@ use borrow.Author.Rules.{rules}
 use Rattle.combiner.proofs.blends_color.Statement.{statement}
 use Rattle.combiner.proofs.blends_color.Tie as tie
 
-enum_told : tie.Need-enum-told
-enum_told c = search rules
+enum_told-1 : tie.Need-enum_told-1
+enum_told-1 c = search rules
 
-enum-told-2 : tie.Need-enum-told-2
-enum-told-2 c = search rules
+enum_told-in-BlendColor : tie.Need-enum_told-in-BlendColor
+enum_told-in-BlendColor c = search rules
 
-enum-told-3 : tie.Need-enum-told-3
-enum-told-3 c = search rules
+enum_told-in-AlphaOver : tie.Need-enum_told-in-AlphaOver
+enum_told-in-AlphaOver c = search rules
 
-enum-told-4 : tie.Need-enum-told-4
-enum-told-4 c = search rules
+enum_told-in-DualSrc : tie.Need-enum_told-in-DualSrc
+enum_told-in-DualSrc c = search rules
 
-returns : tie.Need-returns
+returns-in-Replace : tie.Need-returns-in-Replace
 unfolding blends_color
-returns c = sym (ap blends_color c.enum_told.given.1)
+returns-in-Replace c = sym (ap blends_color c.in-Replace.is)
 
-returns-2 : tie.Need-returns-2
+returns-in-BlendColor : tie.Need-returns-in-BlendColor
 unfolding blends_color
-returns-2 c = sym (ap blends_color c.enum-told2.given.1)
+returns-in-BlendColor c = sym (ap blends_color c.in-BlendColor.is)
 
-returns-3 : tie.Need-returns-3
+returns-in-AlphaOver : tie.Need-returns-in-AlphaOver
 unfolding blends_color
-returns-3 c = sym (ap blends_color c.enum-told3.given.1)
+returns-in-AlphaOver c = sym (ap blends_color c.in-AlphaOver.is)
 
-returns-4 : tie.Need-returns-4
+returns-in-DualSrc : tie.Need-returns-in-DualSrc
 unfolding blends_color
-returns-4 c = sym (ap blends_color c.enum-told4.given.1)
+returns-in-DualSrc c = sym (ap blends_color c.in-DualSrc.is)
 
-pub blends-color-spec : {M : Type 1} → statement M
-blends-color-spec =
+pub blends_color_spec : {M : Type 1} → statement M
+blends_color_spec =
     tie.close
-    (tie.spec enum_told enum-told-2 enum-told-3 enum-told-4 returns returns-2 returns-3 returns-4)
+    (tie.spec enum_told-1 enum_told-in-BlendColor enum_told-in-AlphaOver enum_told-in-DualSrc returns-in-Replace returns-in-BlendColor returns-in-AlphaOver returns-in-DualSrc)

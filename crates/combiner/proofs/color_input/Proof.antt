@@ -11,100 +11,100 @@ use borrow.Author.Rules.{rules}
 use Rattle.combiner.proofs.color_input.Statement.{statement}
 use Rattle.combiner.proofs.color_input.Tie as tie
 
-enum_told : tie.Need-enum-told
-enum_told c = search rules
+enum_told-1 : tie.Need-enum_told-1
+enum_told-1 c = search rules
 
-pick-channel-requires : tie.Need-pick-channel-requires
-pick-channel-requires c κs = search rules
+pick_channel-requires : tie.Need-pick_channel-requires
+pick_channel-requires c κs = search rules
 
-enum-told-2 : tie.Need-enum-told-2
-enum-told-2 c = search rules
+enum_told-in-Environment : tie.Need-enum_told-in-Environment
+enum_told-in-Environment c = search rules
 
-pick-channel-requires-2 : tie.Need-pick-channel-requires-2
-pick-channel-requires-2 c κs = search rules
+pick_channel-requires-in-Environment : tie.Need-pick_channel-requires-in-Environment
+pick_channel-requires-in-Environment c κs = search rules
 
-enum-told-3 : tie.Need-enum-told-3
-enum-told-3 c = search rules
+enum_told-in-Shade : tie.Need-enum_told-in-Shade
+enum_told-in-Shade c = search rules
 
-pick-channel-requires-3 : tie.Need-pick-channel-requires-3
-pick-channel-requires-3 c κs = search rules
+pick_channel-requires-in-Shade : tie.Need-pick_channel-requires-in-Shade
+pick_channel-requires-in-Shade c κs = search rules
 
-enum-told-4 : tie.Need-enum-told-4
-enum-told-4 c = search rules
+enum_told-in-PrimitiveAlpha : tie.Need-enum_told-in-PrimitiveAlpha
+enum_told-in-PrimitiveAlpha c = search rules
 
-enum-told-5 : tie.Need-enum-told-5
-enum-told-5 c = search rules
+enum_told-in-EnvAlpha : tie.Need-enum_told-in-EnvAlpha
+enum_told-in-EnvAlpha c = search rules
 
-enum-told-6 : tie.Need-enum-told-6
-enum-told-6 c = search rules
+enum_told-in-ShadeAlpha : tie.Need-enum_told-in-ShadeAlpha
+enum_told-in-ShadeAlpha c = search rules
 
-enum-told-7 : tie.Need-enum-told-7
-enum-told-7 c = search rules
+enum_told-in-PrimLodFrac : tie.Need-enum_told-in-PrimLodFrac
+enum_told-in-PrimLodFrac c = search rules
 
 abbrev at : tie.Start → ColorIn → Input
 at s x = color_input s.args.combiner x s.args.shade s.args.channel
 
-returns : tie.Need-returns
+returns-in-Zero : tie.Need-returns-in-Zero
 unfolding of_bits color_input colors
-returns c = color_one_of (at c.before) (5 ∷ 0 ∷ 11 ∷ []) c.before.args.input c.match.keys1 refl
+returns-in-Zero c = color_one_of (at c.before) (5 ∷ 0 ∷ 11 ∷ []) c.args.input c.in-Zero.in-Zero-own.keys1 refl
 
-returns-2 : tie.Need-returns-2
+returns-in-One : tie.Need-returns-in-One
 unfolding of_bits color_input colors
-returns-2 c = color_one_of (at c.before) (6 ∷ 17 ∷ []) c.before.args.input c.match.keys2 refl
+returns-in-One c = color_one_of (at c.before) (6 ∷ 17 ∷ []) c.args.input c.in-One.in-One-own.keys2 refl
 
-returns-3 : tie.Need-returns-3
+returns-in-Primitive : tie.Need-returns-in-Primitive
 unfolding color_input
-returns-3 c = ap Value c.pick-channel.ensures ∙ sym (ap (at c.before.before.before) c.before.enum_told.given.1)
+returns-in-Primitive c = ap Value c.pick_channel.ensures ∙ sym (ap (at c.before.before.before) c.in-Primitive.is)
 
-returns-4 : tie.Need-returns-4
+returns-in-Environment : tie.Need-returns-in-Environment
 unfolding color_input
-returns-4 c = ap Value c.pick-channel2.ensures ∙ sym (ap (at c.before.before.before) c.before.enum-told2.given.1)
+returns-in-Environment c = ap Value c.pick_channel-in-Environment.ensures ∙ sym (ap (at c.before.before.before) c.in-Environment.is)
 
-returns-5 : tie.Need-returns-5
+returns-in-Shade : tie.Need-returns-in-Shade
 unfolding color_input
-returns-5 c = ap Value c.pick-channel3.ensures ∙ sym (ap (at c.before.before.before) c.before.enum-told3.given.1)
+returns-in-Shade c = ap Value c.pick_channel-in-Shade.ensures ∙ sym (ap (at c.before.before) c.in-Shade.is)
 
-returns-6 : tie.Need-returns-6
+returns-in-PrimitiveAlpha : tie.Need-returns-in-PrimitiveAlpha
 unfolding color_input
-returns-6 c = sym (ap (at c.before.before) c.enum-told4.given.1)
+returns-in-PrimitiveAlpha c = sym (ap (at c.before) c.in-PrimitiveAlpha.is)
 
-returns-7 : tie.Need-returns-7
+returns-in-EnvAlpha : tie.Need-returns-in-EnvAlpha
 unfolding color_input
-returns-7 c = sym (ap (at c.before.before) c.enum-told5.given.1)
+returns-in-EnvAlpha c = sym (ap (at c.before) c.in-EnvAlpha.is)
 
-returns-8 : tie.Need-returns-8
+returns-in-ShadeAlpha : tie.Need-returns-in-ShadeAlpha
 unfolding color_input
-returns-8 c = sym (ap (at c.before.before) c.enum-told6.given.1)
+returns-in-ShadeAlpha c = sym (ap (at c.before) c.in-ShadeAlpha.is)
 
-returns-9 : tie.Need-returns-9
+returns-in-PrimLodFrac : tie.Need-returns-in-PrimLodFrac
 unfolding color_input
-returns-9 c = sym (ap (at c.before.before) c.enum-told7.given.1)
+returns-in-PrimLodFrac c = sym (ap (at c.before) c.in-PrimLodFrac.is)
 
-returns-10 : tie.Need-returns-10
+returns-in_default : tie.Need-returns-in_default
 unfolding color_input colors
-returns-10 c = color_one_of (at c.before) (others 21 (5 ∷ 0 ∷ 11 ∷ 6 ∷ 17 ∷ 2 ∷ 4 ∷ 3 ∷ 14 ∷ 16 ∷ 15 ∷ 18 ∷ [])) c.before.args.input c.match.keys10 refl
+returns-in_default c = color_one_of (at c.before) (others 21 (5 ∷ 0 ∷ 11 ∷ 6 ∷ 17 ∷ 2 ∷ 4 ∷ 3 ∷ 14 ∷ 16 ∷ 15 ∷ 18 ∷ [])) c.args.input c.in_default.in_default-own.keys10 refl
 
-pub color-input-spec : {M : Type 1} → statement M
-color-input-spec =
+pub color_input_spec : {M : Type 1} → statement M
+color_input_spec =
     tie.close
     (tie.spec
-    enum_told
-    pick-channel-requires
-    enum-told-2
-    pick-channel-requires-2
-    enum-told-3
-    pick-channel-requires-3
-    enum-told-4
-    enum-told-5
-    enum-told-6
-    enum-told-7
-    returns
-    returns-2
-    returns-3
-    returns-4
-    returns-5
-    returns-6
-    returns-7
-    returns-8
-    returns-9
-    returns-10)
+    enum_told-1
+    pick_channel-requires
+    enum_told-in-Environment
+    pick_channel-requires-in-Environment
+    enum_told-in-Shade
+    pick_channel-requires-in-Shade
+    enum_told-in-PrimitiveAlpha
+    enum_told-in-EnvAlpha
+    enum_told-in-ShadeAlpha
+    enum_told-in-PrimLodFrac
+    returns-in-Zero
+    returns-in-One
+    returns-in-Primitive
+    returns-in-Environment
+    returns-in-Shade
+    returns-in-PrimitiveAlpha
+    returns-in-EnvAlpha
+    returns-in-ShadeAlpha
+    returns-in-PrimLodFrac
+    returns-in_default)

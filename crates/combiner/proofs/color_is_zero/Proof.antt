@@ -8,16 +8,16 @@ use borrow.Author.Rules.{rules}
 use Rattle.combiner.proofs.color_is_zero.Statement.{statement}
 use Rattle.combiner.proofs.color_is_zero.Tie as tie
 
-enum_told : tie.Need-enum-told
-enum_told c = search rules
+enum_told-1 : tie.Need-enum_told-1
+enum_told-1 c = search rules
 
-returns : tie.Need-returns
+returns-in-Zero : tie.Need-returns-in-Zero
 unfolding zero_color color_number
-returns c = sym (ap zero_color c.enum_told.given.1)
+returns-in-Zero c = sym (ap zero_color c.in-Zero.is)
 
-returns-2 : tie.Need-returns-2
+returns-in_default : tie.Need-returns-in_default
 unfolding zero_color color_number colors
-returns-2 c = color_one_of zero_color (others 21 (5 ∷ [])) c.before.args.input c.match.keys2 refl
+returns-in_default c = color_one_of zero_color (others 21 (5 ∷ [])) c.args.input c.in_default.in_default-own.keys2 refl
 
-pub color-is-zero-spec : {M : Type 1} → statement M
-color-is-zero-spec = tie.close (tie.spec enum_told returns returns-2)
+pub color_is_zero_spec : {M : Type 1} → statement M
+color_is_zero_spec = tie.close (tie.spec enum_told-1 returns-in-Zero returns-in_default)

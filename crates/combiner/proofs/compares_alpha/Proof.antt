@@ -5,27 +5,27 @@ use borrow.Author.Rules.{rules}
 use Rattle.combiner.proofs.compares_alpha.Statement.{statement}
 use Rattle.combiner.proofs.compares_alpha.Tie as tie
 
-enum_told : tie.Need-enum-told
-enum_told c = search rules
+enum_told-1 : tie.Need-enum_told-1
+enum_told-1 c = search rules
 
-enum-told-2 : tie.Need-enum-told-2
-enum-told-2 c = search rules
+enum_told-in-Threshold : tie.Need-enum_told-in-Threshold
+enum_told-in-Threshold c = search rules
 
-enum-told-3 : tie.Need-enum-told-3
-enum-told-3 c = search rules
+enum_told-in-Dither : tie.Need-enum_told-in-Dither
+enum_told-in-Dither c = search rules
 
-returns : tie.Need-returns
+returns-in-None : tie.Need-returns-in-None
 unfolding compares
-returns c = sym (ap compares c.enum_told.given.1)
+returns-in-None c = sym (ap compares c.in-None.is)
 
-returns-2 : tie.Need-returns-2
+returns-in-Threshold : tie.Need-returns-in-Threshold
 unfolding compares
-returns-2 c = sym (ap compares c.enum-told2.given.1)
+returns-in-Threshold c = sym (ap compares c.in-Threshold.is)
 
-returns-3 : tie.Need-returns-3
+returns-in-Dither : tie.Need-returns-in-Dither
 unfolding compares
-returns-3 c = sym (ap compares c.enum-told3.given.1)
+returns-in-Dither c = sym (ap compares c.in-Dither.is)
 
-pub compares-alpha-spec : {M : Type 1} → statement M
-compares-alpha-spec =
-    tie.close (tie.spec enum_told enum-told-2 enum-told-3 returns returns-2 returns-3)
+pub compares_alpha_spec : {M : Type 1} → statement M
+compares_alpha_spec =
+    tie.close (tie.spec enum_told-1 enum_told-in-Threshold enum_told-in-Dither returns-in-None returns-in-Threshold returns-in-Dither)

@@ -6,13 +6,13 @@ use Rattle.combiner.specs.Strict.{filled}
 use Rattle.combiner.proofs.fill.Statement.{statement}
 use Rattle.combiner.proofs.fill.Tie as tie
 
-returns : tie.Need-returns
+returns-then-v : tie.Need-returns-then-v
 unfolding of_bits filled
-returns c = λ i. cond (sym c.if1.true i) c.before.args.bits 0
+returns-then-v c = λ i. cond (sym c.if-v.true i) c.args.bits 0
 
-returns-2 : tie.Need-returns-2
+returns-else-v : tie.Need-returns-else-v
 unfolding of_bits filled
-returns-2 c = λ i. cond (sym c.if1.false i) c.before.args.bits 0
+returns-else-v c = λ i. cond (sym c.if-v.false i) c.args.bits 0
 
 pub fill_spec : {M : Type 1} → statement M
-fill_spec = tie.close (tie.spec returns returns-2)
+fill_spec = tie.close (tie.spec returns-then-v returns-else-v)

@@ -8,5 +8,5 @@ returns : tie.Need-returns
 unfolding of_bits
 returns c = refl
 
-pub full-shade-spec : {M : Type 1} → statement M
-full-shade-spec = tie.close (tie.spec returns)
+pub full_shade_spec : {M : Type 1} → statement M
+full_shade_spec = tie.close (tie.spec returns)

@@ -6,21 +6,21 @@ use borrow.Author.Rules.{rules}
 use Rattle.combiner.proofs.is_plain.Statement.{statement}
 use Rattle.combiner.proofs.is_plain.Tie as tie
 
-compares-alpha-requires : tie.Need-compares-alpha-requires
-compares-alpha-requires c κs = search rules
+compares_alpha-requires : tie.Need-compares_alpha-requires
+compares_alpha-requires c κs = search rules
 
-blends-color-requires : tie.Need-blends-color-requires
-blends-color-requires c κs = search rules
+blends_color-requires : tie.Need-blends_color-requires
+blends_color-requires c κs = search rules
 
 returns : tie.Need-returns
 unfolding plain
 returns c =
-    let m = c.before.before.before.before.before.before.before.args.mode in
+    let m = c.args.mode in
     λ i.
     eqb m.cycle_type 0
     && not ((m.z_test || m.z_write)
-    || (m.cvg_x_alpha || c.before.before.before.before.compares-alpha.ensures i || m.alpha_cvg_select)
-    || (c.before.blends-color.ensures i || m.color_on_coverage))
+    || (m.cvg_x_alpha || c.compares_alpha.ensures i || m.alpha_cvg_select)
+    || (c.blends_color.ensures i || m.color_on_coverage))
 
-pub is-plain-spec : {M : Type 1} → statement M
-is-plain-spec = tie.close (tie.spec compares-alpha-requires blends-color-requires returns)
+pub is_plain_spec : {M : Type 1} → statement M
+is_plain_spec = tie.close (tie.spec compares_alpha-requires blends_color-requires returns)

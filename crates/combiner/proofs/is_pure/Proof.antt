@@ -9,5 +9,5 @@ returns : tie.Need-returns
 unfolding of_bits pure
 returns c = refl
 
-pub is-pure-spec : {M : Type 1} → statement M
-is-pure-spec = tie.close (tie.spec returns)
+pub is_pure_spec : {M : Type 1} → statement M
+is_pure_spec = tie.close (tie.spec returns)

@@ -6,84 +6,84 @@ use borrow.Author.Rules.{rules}
 use Rattle.combiner.proofs.mix.Statement.{statement}
 use Rattle.combiner.proofs.mix.Tie as tie
 
-enum-known-a : tie.Need-enum-known-a
-enum-known-a c = search rules
+enum_known-a : tie.Need-enum_known-a
+enum_known-a c = search rules
 
-enum_told : tie.Need-enum-told
-enum_told c = search rules
+enum_told-1 : tie.Need-enum_told-1
+enum_told-1 c = search rules
 
-returns : tie.Need-returns
+returns-in_default : tie.Need-returns-in_default
 unfolding mixed
-returns c = let s = c.before.before.args in λ i. mixed (sym c.enum_told.given.1 i) s.b s.c s.d
+returns-in_default c = let s = c.args in λ i. mixed (sym c.in_default.is i) s.b s.c s.d
 
-enum-known-b : tie.Need-enum-known-b
-enum-known-b c = search rules
+enum_known-b : tie.Need-enum_known-b
+enum_known-b c = search rules
 
-enum-told-2 : tie.Need-enum-told-2
-enum-told-2 c = search rules
+enum_told-in_default-b : tie.Need-enum_told-in_default-b
+enum_told-in_default-b c = search rules
 
-returns-2 : tie.Need-returns-2
+returns-in_default-b : tie.Need-returns-in_default-b
 unfolding mixed
-returns-2 c =
-    let w = c.before.before in
-    let s = w.before.before.before.args in
-    λ i. mixed (sym w.before.a.given.1 i) (sym c.enum-told2.given.1 i) s.c s.d
+returns-in_default-b c =
+    let w = c.before in
+    let s = w.args in
+    λ i. mixed (sym w.in-Value.is i) (sym c.in_default-b.is i) s.c s.d
 
-enum-known-c : tie.Need-enum-known-c
-enum-known-c c = search rules
+enum_known-c : tie.Need-enum_known-c
+enum_known-c c = search rules
 
-enum-told-3 : tie.Need-enum-told-3
-enum-told-3 c = search rules
+enum_told-in_default-c : tie.Need-enum_told-in_default-c
+enum_told-in_default-c c = search rules
 
-returns-3 : tie.Need-returns-3
+returns-in_default-c : tie.Need-returns-in_default-c
 unfolding mixed
-returns-3 c =
-    let v = c.before.before in
-    let w = v.before.before.before in
-    λ i. mixed (sym w.before.a.given.1 i) (sym v.before.b.given.1 i) (sym c.enum-told3.given.1 i) w.before.before.before.args.d
+returns-in_default-c c =
+    let v = c.before in
+    let w = v.before in
+    λ i. mixed (sym w.in-Value.is i) (sym v.in-Value-b.is i) (sym c.in_default-c.is i) w.args.d
 
-enum-known-d : tie.Need-enum-known-d
-enum-known-d c = search rules
+enum_known-d : tie.Need-enum_known-d
+enum_known-d c = search rules
 
-enum-told-4 : tie.Need-enum-told-4
-enum-told-4 c = search rules
+enum_told-in_default-d : tie.Need-enum_told-in_default-d
+enum_told-in_default-d c = search rules
 
-returns-4 : tie.Need-returns-4
+returns-in_default-d : tie.Need-returns-in_default-d
 unfolding mixed
-returns-4 c =
-    let u = c.before.before in
-    let v = u.before.before.before in
-    let w = v.before.before.before in
-    λ i. mixed (sym w.before.a.given.1 i) (sym v.before.b.given.1 i) (sym u.before.c.given.1 i) (sym c.enum-told4.given.1 i)
+returns-in_default-d c =
+    let u = c.before in
+    let v = u.before in
+    let w = v.before in
+    λ i. mixed (sym w.in-Value.is i) (sym v.in-Value-b.is i) (sym u.in-Value-c.is i) (sym c.in_default-d.is i)
 
 channel-requires : tie.Need-channel-requires
 channel-requires c κs = search rules
 
-returns-5 : tie.Need-returns-5
+returns : tie.Need-returns
 unfolding mixed
-returns-5 c =
+returns c =
     let t = c.before in
-    let u = t.before.before.before in
-    let v = u.before.before.before in
-    let w = v.before.before.before in
+    let u = t.before in
+    let v = u.before in
+    let w = v.before in
     ap Value c.channel.ensures
-    ∙ (λ i. mixed (sym w.before.a.given.1 i) (sym v.before.b.given.1 i) (sym u.before.c.given.1 i) (sym t.before.d.given.1 i))
+    ∙ (λ i. mixed (sym w.in-Value.is i) (sym v.in-Value-b.is i) (sym u.in-Value-c.is i) (sym t.in-Value-d.is i))
 
-pub mix-spec : {M : Type 1} → statement M
-mix-spec =
+pub mix_spec : {M : Type 1} → statement M
+mix_spec =
     tie.close
     (tie.spec
-    enum-known-a
-    enum_told
-    returns
-    enum-known-b
-    enum-told-2
-    returns-2
-    enum-known-c
-    enum-told-3
-    returns-3
-    enum-known-d
-    enum-told-4
-    returns-4
+    enum_known-a
+    enum_told-1
+    returns-in_default
+    enum_known-b
+    enum_told-in_default-b
+    returns-in_default-b
+    enum_known-c
+    enum_told-in_default-c
+    returns-in_default-c
+    enum_known-d
+    enum_told-in_default-d
+    returns-in_default-d
     channel-requires
-    returns-5)
+    returns)

@@ -7,33 +7,33 @@ use Rattle.combiner.specs.Combine.{element}
 use Rattle.combiner.proofs.pick_channel.Statement.{statement}
 use Rattle.combiner.proofs.pick_channel.Tie as tie
 
+returns-then-i-eq0 : tie.Need-returns-then-i-eq0
+unfolding element
+returns-then-i-eq0 c =
+    let a = c.args in
+    λ i. cond (sym (eq-eqb a.i 0 c.if-i-eq0.true) i) a.c.r (cond (eqb a.i 1) a.c.g (cond (eqb a.i 2) a.c.b a.c.a))
+
+returns-then-i-eq1 : tie.Need-returns-then-i-eq1
+unfolding element
+returns-then-i-eq1 c =
+    let a = c.args in
+    λ i. cond (sym (ne_eqb a.i 0 c.if-i-eq0.false) i) a.c.r (cond (sym (eq-eqb a.i 1 c.if-i-eq1.true) i) a.c.g (cond (eqb a.i 2) a.c.b a.c.a))
+
+returns-then-i-eq2 : tie.Need-returns-then-i-eq2
+unfolding element
+returns-then-i-eq2 c =
+    let a = c.args in
+    λ i.
+    cond (sym (ne_eqb a.i 0 c.if-i-eq0.false) i) a.c.r
+    (cond (sym (ne_eqb a.i 1 c.if-i-eq1.false) i) a.c.g (cond (sym (eq-eqb a.i 2 c.if-i-eq2.true) i) a.c.b a.c.a))
+
 returns : tie.Need-returns
 unfolding element
 returns c =
-    let a = c.before.args in
-    λ i. cond (sym (eq-eqb a.i 0 c.if1.true) i) a.c.r (cond (eqb a.i 1) a.c.g (cond (eqb a.i 2) a.c.b a.c.a))
-
-returns-2 : tie.Need-returns-2
-unfolding element
-returns-2 c =
-    let a = c.before.before.args in
-    λ i. cond (sym (ne_eqb a.i 0 c.before.if1.false) i) a.c.r (cond (sym (eq-eqb a.i 1 c.if2.true) i) a.c.g (cond (eqb a.i 2) a.c.b a.c.a))
-
-returns-3 : tie.Need-returns-3
-unfolding element
-returns-3 c =
-    let a = c.before.before.before.args in
+    let a = c.args in
     λ i.
-    cond (sym (ne_eqb a.i 0 c.before.before.if1.false) i) a.c.r
-    (cond (sym (ne_eqb a.i 1 c.before.if2.false) i) a.c.g (cond (sym (eq-eqb a.i 2 c.if3.true) i) a.c.b a.c.a))
+    cond (sym (ne_eqb a.i 0 c.if-i-eq0.false) i) a.c.r
+    (cond (sym (ne_eqb a.i 1 c.if-i-eq1.false) i) a.c.g (cond (sym (ne_eqb a.i 2 c.if-i-eq2.false) i) a.c.b a.c.a))
 
-returns-4 : tie.Need-returns-4
-unfolding element
-returns-4 c =
-    let a = c.before.before.before.args in
-    λ i.
-    cond (sym (ne_eqb a.i 0 c.before.before.if1.false) i) a.c.r
-    (cond (sym (ne_eqb a.i 1 c.before.if2.false) i) a.c.g (cond (sym (ne_eqb a.i 2 c.if3.false) i) a.c.b a.c.a))
-
-pub pick-channel-spec : {M : Type 1} → statement M
-pick-channel-spec = tie.close (tie.spec returns returns-2 returns-3 returns-4)
+pub pick_channel_spec : {M : Type 1} → statement M
+pick_channel_spec = tie.close (tie.spec returns-then-i-eq0 returns-then-i-eq1 returns-then-i-eq2 returns)

@@ -6,19 +6,19 @@ use borrow.Author.Rules.{rules}
 use Rattle.combiner.proofs.read_uniform.Statement.{statement}
 use Rattle.combiner.proofs.read_uniform.Tie as tie
 
-decode-combine-requires : tie.Need-decode-combine-requires
-decode-combine-requires c κs = search rules
+decode_combine-decoded-requires : tie.Need-decode_combine-decoded-requires
+decode_combine-decoded-requires c κs = search rules
 
-array-read-lod : tie.Need-array-read-lod
-array-read-lod c = search rules
+bounds-params-2 : tie.Need-bounds-params-2
+bounds-params-2 c = search rules
 
 returns : tie.Need-returns
 unfolding combiner_of
 returns c =
-    let u = c.before.before.before.before.before.before.before.args.u in
+    let u = c.args.u in
     λ i.
     record {
-      selectors = (c.before.before.before.before.before.before.decode-combine.ensures i).cyc1;
+      selectors = (c.decode_combine-decoded.ensures i).cyc1;
       prim = u.prim;
       env = u.env;
       blend = u.blend_color;
@@ -26,5 +26,5 @@ returns c =
       lod = get_or u.lod_params 2 nan;
     }
 
-pub read-uniform-spec : {M : Type 1} → statement M
-read-uniform-spec = tie.close (tie.spec decode-combine-requires array-read-lod returns)
+pub read_uniform_spec : {M : Type 1} → statement M
+read_uniform_spec = tie.close (tie.spec decode_combine-decoded-requires bounds-params-2 returns)

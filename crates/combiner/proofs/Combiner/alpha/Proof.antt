@@ -5,17 +5,17 @@ use borrow.Author.Rules.{rules}
 use Rattle.combiner.proofs.Combiner.alpha.Statement.{statement}
 use Rattle.combiner.proofs.Combiner.alpha.Tie as tie
 
-alpha-input-requires : tie.Need-alpha-input-requires
-alpha-input-requires c κs = search rules
+alpha_input-a-requires : tie.Need-alpha_input-a-requires
+alpha_input-a-requires c κs = search rules
 
-alpha-input-requires-2 : tie.Need-alpha-input-requires-2
-alpha-input-requires-2 c κs = search rules
+alpha_input-b-requires : tie.Need-alpha_input-b-requires
+alpha_input-b-requires c κs = search rules
 
-alpha-input-requires-3 : tie.Need-alpha-input-requires-3
-alpha-input-requires-3 c κs = search rules
+alpha_input-c-requires : tie.Need-alpha_input-c-requires
+alpha_input-c-requires c κs = search rules
 
-alpha-input-requires-4 : tie.Need-alpha-input-requires-4
-alpha-input-requires-4 c κs = search rules
+alpha_input-d-requires : tie.Need-alpha_input-d-requires
+alpha_input-d-requires c κs = search rules
 
 mix-requires : tie.Need-mix-requires
 mix-requires c κs = search rules
@@ -24,15 +24,15 @@ returns : tie.Need-returns
 unfolding alpha_at
 returns c =
     c.mix.ensures
-    ∙ (λ i. mixed (c.before.before.before.before.alpha-input.ensures i) (c.before.before.before.alpha-input2.ensures i) (c.before.before.alpha-input3.ensures i) (c.before.alpha-input4.ensures i))
+    ∙ (λ i. mixed (c.alpha_input-a.ensures i) (c.alpha_input-b.ensures i) (c.alpha_input-c.ensures i) (c.alpha_input-d.ensures i))
 
-pub alpha-spec : {M : Type 1} → statement M
-alpha-spec =
+pub alpha_spec : {M : Type 1} → statement M
+alpha_spec =
     tie.close
     (tie.spec
-    alpha-input-requires
-    alpha-input-requires-2
-    alpha-input-requires-3
-    alpha-input-requires-4
+    alpha_input-a-requires
+    alpha_input-b-requires
+    alpha_input-c-requires
+    alpha_input-d-requires
     mix-requires
     returns)

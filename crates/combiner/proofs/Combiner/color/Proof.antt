@@ -12,112 +12,112 @@ use Rattle.combiner.proofs.Combiner.color.Tie as tie
 rgb-requires : tie.Need-rgb-requires
 rgb-requires c κs = search rules
 
-enum-known-r : tie.Need-enum-known-r
-enum-known-r c = search rules
+enum_known-r : tie.Need-enum_known-r
+enum_known-r c = search rules
 
-enum_told : tie.Need-enum-told
-enum_told c = search rules
+enum_told-1 : tie.Need-enum_told-1
+enum_told-1 c = search rules
 
 -- each channel that was taken apart
-red : (w : tie.After-known-told) → (let s = w.before.before.before.before.args in channel_at s.self s.shade 0) ≡ Value w.before.r.given.0.0
-red w = sym w.before.before.before.rgb.ensures ∙ w.before.r.given.1
+red : (w : tie.In-Value) → (let s = w.args in channel_at s.self s.shade 0) ≡ Value w.in-Value.r
+red w = sym w.rgb.ensures ∙ w.in-Value.is
 
-green : (v : tie.After-known-told2) → (let s = v.before.before.before.before.before.before.before.before.args in channel_at s.self s.shade 1) ≡ Value v.before.g.given.0.0
-green v = sym v.before.before.before.rgb2.ensures ∙ v.before.g.given.1
+green : (v : tie.In-Value-rgb) → (let s = v.args in channel_at s.self s.shade 1) ≡ Value v.in-Value-rgb.g
+green v = sym v.rgb-2.ensures ∙ v.in-Value-rgb.is
 
-blue : (u : tie.After-known-told3) → (let s = u.before.before.before.before.before.before.before.before.before.before.before.before.args in channel_at s.self s.shade 2) ≡ Value u.before.b.given.0.0
-blue u = sym u.before.before.before.rgb3.ensures ∙ u.before.b.given.1
+blue : (u : tie.In-Value-rgb-2) → (let s = u.args in channel_at s.self s.shade 2) ≡ Value u.in-Value-rgb-2.b
+blue u = sym u.rgb-3.ensures ∙ u.in-Value-rgb-2.is
 
-returns : tie.Need-returns
+returns-in_default : tie.Need-returns-in_default
 unfolding color_of joined
-returns c =
-    let s = c.before.before.before.args in
-    let p = sym c.before.before.rgb.ensures ∙ c.enum_told.given.1 in
+returns-in_default c =
+    let s = c.args in
+    let p = sym c.rgb.ensures ∙ c.in_default.is in
     meant color_means (color-means _ _)
     (λ i. joined (sym p i) (channel_at s.self s.shade 1) (channel_at s.self s.shade 2) (alpha_at s.self s.shade))
 
 rgb-requires-2 : tie.Need-rgb-requires-2
 rgb-requires-2 c κs = search rules
 
-enum-known-g : tie.Need-enum-known-g
-enum-known-g c = search rules
+enum_known-g : tie.Need-enum_known-g
+enum_known-g c = search rules
 
-enum-told-2 : tie.Need-enum-told-2
-enum-told-2 c = search rules
+enum_told-in_default-rgb : tie.Need-enum_told-in_default-rgb
+enum_told-in_default-rgb c = search rules
 
-returns-2 : tie.Need-returns-2
+returns-in_default-rgb : tie.Need-returns-in_default-rgb
 unfolding color_of joined
-returns-2 c =
-    let w = c.before.before.before in
-    let s = w.before.before.before.before.args in
-    let p = sym c.before.before.rgb2.ensures ∙ c.enum-told2.given.1 in
+returns-in_default-rgb c =
+    let w = c.before.before in
+    let s = w.args in
+    let p = sym c.rgb-2.ensures ∙ c.in_default-rgb.is in
     meant color_means (color-means _ _)
     (λ i. joined (sym (red w) i) (sym p i) (channel_at s.self s.shade 2) (alpha_at s.self s.shade))
 
 rgb-requires-3 : tie.Need-rgb-requires-3
 rgb-requires-3 c κs = search rules
 
-enum-known-b : tie.Need-enum-known-b
-enum-known-b c = search rules
+enum_known-b : tie.Need-enum_known-b
+enum_known-b c = search rules
 
-enum-told-3 : tie.Need-enum-told-3
-enum-told-3 c = search rules
+enum_told-in_default-rgb-2 : tie.Need-enum_told-in_default-rgb-2
+enum_told-in_default-rgb-2 c = search rules
 
-returns-3 : tie.Need-returns-3
+returns-in_default-rgb-2 : tie.Need-returns-in_default-rgb-2
 unfolding color_of joined
-returns-3 c =
-    let v = c.before.before.before in
-    let w = v.before.before.before.before in
-    let s = w.before.before.before.before.args in
-    let p = sym c.before.before.rgb3.ensures ∙ c.enum-told3.given.1 in
+returns-in_default-rgb-2 c =
+    let v = c.before.before in
+    let w = v.before.before in
+    let s = w.args in
+    let p = sym c.rgb-3.ensures ∙ c.in_default-rgb-2.is in
     meant color_means (color-means _ _)
     (λ i. joined (sym (red w) i) (sym (green v) i) (sym p i) (alpha_at s.self s.shade))
 
 alpha-requires : tie.Need-alpha-requires
 alpha-requires c κs = search rules
 
-enum-known-a : tie.Need-enum-known-a
-enum-known-a c = search rules
+enum_known-a : tie.Need-enum_known-a
+enum_known-a c = search rules
 
-enum-told-4 : tie.Need-enum-told-4
-enum-told-4 c = search rules
+enum_told-in_default-alpha : tie.Need-enum_told-in_default-alpha
+enum_told-in_default-alpha c = search rules
 
-returns-4 : tie.Need-returns-4
+returns-in_default-alpha : tie.Need-returns-in_default-alpha
 unfolding color_of joined
-returns-4 c =
-    let u = c.before.before.before in
-    let v = u.before.before.before.before in
-    let p = sym c.before.before.alpha.ensures ∙ c.enum-told4.given.1 in
+returns-in_default-alpha c =
+    let u = c.before.before in
+    let v = u.before.before in
+    let p = sym c.alpha.ensures ∙ c.in_default-alpha.is in
     meant color_means (color-means _ _)
-    (λ i. joined (sym (red v.before.before.before.before) i) (sym (green v) i) (sym (blue u) i) (sym p i))
+    (λ i. joined (sym (red v.before.before) i) (sym (green v) i) (sym (blue u) i) (sym p i))
 
-returns-5 : tie.Need-returns-5
+returns : tie.Need-returns
 unfolding color_of joined
-returns-5 c =
-    let u = c.before.before.before.before in
-    let v = u.before.before.before.before in
-    let p = sym c.before.before.before.alpha.ensures ∙ c.before.a.given.1 in
+returns c =
+    let u = c.before.before in
+    let v = u.before.before in
+    let p = sym c.alpha.ensures ∙ c.in-Value-alpha.is in
     meant color_means (color-means _ _)
-    (λ i. joined (sym (red v.before.before.before.before) i) (sym (green v) i) (sym (blue u) i) (sym p i))
+    (λ i. joined (sym (red v.before.before) i) (sym (green v) i) (sym (blue u) i) (sym p i))
 
-pub color-spec : {M : Type 1} → statement M
-color-spec =
+pub color_spec : {M : Type 1} → statement M
+color_spec =
     tie.close
     (tie.spec
     rgb-requires
-    enum-known-r
-    enum_told
-    returns
+    enum_known-r
+    enum_told-1
+    returns-in_default
     rgb-requires-2
-    enum-known-g
-    enum-told-2
-    returns-2
+    enum_known-g
+    enum_told-in_default-rgb
+    returns-in_default-rgb
     rgb-requires-3
-    enum-known-b
-    enum-told-3
-    returns-3
+    enum_known-b
+    enum_told-in_default-rgb-2
+    returns-in_default-rgb-2
     alpha-requires
-    enum-known-a
-    enum-told-4
-    returns-4
-    returns-5)
+    enum_known-a
+    enum_told-in_default-alpha
+    returns-in_default-alpha
+    returns)

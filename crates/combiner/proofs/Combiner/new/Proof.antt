@@ -13,39 +13,39 @@ use borrow.Author.Rules.{rules}
 use Rattle.combiner.proofs.Combiner.new.Statement.{statement}
 use Rattle.combiner.proofs.Combiner.new.Tie as tie
 
-returns : tie.Need-returns
+returns-then-uniform-ne0 : tie.Need-returns-then-uniform-ne0
 unfolding new_of
-returns c =
-    let s = c.before.before.args in
+returns-then-uniform-ne0 c =
+    let s = c.args in
     meant made_means (new_means _ _)
-    (λ i. cond (sym (ne_eqb s.uniform.tex_enable 0 c.if1.true) i && plain s.mode) (if_colored (combiner_of s.uniform) (color_of (combiner_of s.uniform) full_shade)) Without)
+    (λ i. cond (sym (ne_eqb s.uniform.tex_enable 0 c.if-uniform-ne0.true) i && plain s.mode) (if_colored (combiner_of s.uniform) (color_of (combiner_of s.uniform) full_shade)) Without)
 
-is-plain-requires : tie.Need-is-plain-requires
-is-plain-requires c κs = search rules
+is_plain-requires : tie.Need-is_plain-requires
+is_plain-requires c κs = search rules
 
-returns-2 : tie.Need-returns-2
+returns-then-not-is_plain : tie.Need-returns-then-not-is_plain
 unfolding new_of
-returns-2 c =
-    let s = c.before.before.before.before.args in
-    let e = eq-eqb s.uniform.tex_enable 0 c.before.before.if1.false in
-    let p = sym c.before.is_plain.ensures ∙ sym (not-not c.before.is_plain.result) ∙ ap not c.if2.true in
+returns-then-not-is_plain c =
+    let s = c.args in
+    let e = eq-eqb s.uniform.tex_enable 0 c.if-uniform-ne0.false in
+    let p = sym c.is_plain.ensures ∙ sym (not-not c.is_plain.result) ∙ ap not c.if-not-is_plain.true-raw in
     meant made_means (new_means _ _)
     (λ i. cond (sym e i && sym p i) (if_colored (combiner_of s.uniform) (color_of (combiner_of s.uniform) full_shade)) Without)
 
-read-uniform-requires : tie.Need-read-uniform-requires
-read-uniform-requires c κs = search rules
+read_uniform-result-requires : tie.Need-read_uniform-result-requires
+read_uniform-result-requires c κs = search rules
 
-full-shade-requires : tie.Need-full-shade-requires
-full-shade-requires c κs = search rules
+full_shade-requires : tie.Need-full_shade-requires
+full_shade-requires c κs = search rules
 
 color-requires : tie.Need-color-requires
 color-requires c κs = search rules
 
-enum_told : tie.Need-enum-told
-enum_told c = search rules
+enum_told-1 : tie.Need-enum_told-1
+enum_told-1 c = search rules
 
-enum-told-2 : tie.Need-enum-told-2
-enum-told-2 c = search rules
+enum_told-in_default : tie.Need-enum_told-in_default
+enum_told-in_default c = search rules
 
 -- the tests that led to the colour, and the colour
 abbrev args_of : (k : tie.After-color) → tie.Start
@@ -54,38 +54,38 @@ args_of k = k.before.before.before.before.before.before.before
 opened : (k : tie.After-color) → (eqb (args_of k).args.uniform.tex_enable 0 && plain (args_of k).args.mode) ≡ true
 opened k =
     let two = k.before.before.before in
-    let e = eq-eqb (args_of k).args.uniform.tex_enable 0 two.before.before.if1.false in
-    let p = sym two.before.is_plain.ensures ∙ sym (not-not two.before.is_plain.result) ∙ ap not two.if2.false in
+    let e = eq-eqb (args_of k).args.uniform.tex_enable 0 two.if-uniform-ne0.false in
+    let p = sym two.is_plain.ensures ∙ sym (not-not two.is_plain.result) ∙ ap not two.if-not-is_plain.false-raw in
     λ i. e i && p i
 
 shown : (k : tie.After-color) → k.color.result ≡ color_of (combiner_of (args_of k).args.uniform) full_shade
-shown k = k.color.ensures.1 ∙ (λ i. color_of (k.before.before.read-uniform.ensures i) (k.before.full-shade.ensures i))
+shown k = k.color.ensures.1 ∙ (λ i. color_of (k.read_uniform-result.ensures i) (k.full_shade.ensures i))
 
-returns-3 : tie.Need-returns-3
+returns-in_default : tie.Need-returns-in_default
 unfolding new_of
-returns-3 c =
-    let k = c.before.before in
+returns-in_default c =
+    let k = c.before in
     meant made_means (new_means _ _)
-    (λ i. cond (sym (opened k) i) (if_colored (combiner_of (args_of k).args.uniform) (sym (sym (shown k) ∙ c.enum-told2.given.1) i)) Without)
+    (λ i. cond (sym (opened k) i) (if_colored (combiner_of (args_of k).args.uniform) (sym (sym (shown k) ∙ c.in_default.is) i)) Without)
 
-returns-4 : tie.Need-returns-4
+returns : tie.Need-returns
 unfolding new_of
-returns-4 c =
-    let k = c.before.before in
+returns c =
+    let k = c.before in
     meant made_means (new_means _ _)
-    (λ i. cond (sym (opened k) i) (if_colored (k.before.before.read-uniform.ensures i) (sym (sym (shown k) ∙ c.enum_told.given.1) i)) Without)
+    (λ i. cond (sym (opened k) i) (if_colored (k.read_uniform-result.ensures i) (sym (sym (shown k) ∙ c.in-Value.is) i)) Without)
 
 pub new_spec : {M : Type 1} → statement M
 new_spec =
     tie.close
     (tie.spec
-    returns
-    is-plain-requires
-    returns-2
-    read-uniform-requires
-    full-shade-requires
+    returns-then-uniform-ne0
+    is_plain-requires
+    returns-then-not-is_plain
+    read_uniform-result-requires
+    full_shade-requires
     color-requires
-    enum_told
-    enum-told-2
-    returns-3
-    returns-4)
+    enum_told-1
+    enum_told-in_default
+    returns-in_default
+    returns)

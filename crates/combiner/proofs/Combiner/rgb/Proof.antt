@@ -5,17 +5,17 @@ use borrow.Author.Rules.{rules}
 use Rattle.combiner.proofs.Combiner.rgb.Statement.{statement}
 use Rattle.combiner.proofs.Combiner.rgb.Tie as tie
 
-color-input-requires : tie.Need-color-input-requires
-color-input-requires c κs = search rules
+color_input-a-requires : tie.Need-color_input-a-requires
+color_input-a-requires c κs = search rules
 
-color-input-requires-2 : tie.Need-color-input-requires-2
-color-input-requires-2 c κs = search rules
+color_input-b-requires : tie.Need-color_input-b-requires
+color_input-b-requires c κs = search rules
 
-color-input-requires-3 : tie.Need-color-input-requires-3
-color-input-requires-3 c κs = search rules
+color_input-c-requires : tie.Need-color_input-c-requires
+color_input-c-requires c κs = search rules
 
-color-input-requires-4 : tie.Need-color-input-requires-4
-color-input-requires-4 c κs = search rules
+color_input-d-requires : tie.Need-color_input-d-requires
+color_input-d-requires c κs = search rules
 
 mix-requires : tie.Need-mix-requires
 mix-requires c κs = search rules
@@ -24,15 +24,15 @@ returns : tie.Need-returns
 unfolding channel_at
 returns c =
     c.mix.ensures
-    ∙ (λ i. mixed (c.before.before.before.before.color-input.ensures i) (c.before.before.before.color-input2.ensures i) (c.before.before.color-input3.ensures i) (c.before.color-input4.ensures i))
+    ∙ (λ i. mixed (c.color_input-a.ensures i) (c.color_input-b.ensures i) (c.color_input-c.ensures i) (c.color_input-d.ensures i))
 
-pub rgb-spec : {M : Type 1} → statement M
-rgb-spec =
+pub rgb_spec : {M : Type 1} → statement M
+rgb_spec =
     tie.close
     (tie.spec
-    color-input-requires
-    color-input-requires-2
-    color-input-requires-3
-    color-input-requires-4
+    color_input-a-requires
+    color_input-b-requires
+    color_input-c-requires
+    color_input-d-requires
     mix-requires
     returns)

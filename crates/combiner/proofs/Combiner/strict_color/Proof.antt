@@ -11,62 +11,62 @@ use borrow.Author.Rules.{rules}
 use Rattle.combiner.proofs.Combiner.strict_color.Statement.{statement}
 use Rattle.combiner.proofs.Combiner.strict_color.Tie as tie
 
-is-flat-requires : tie.Need-is-flat-requires
-is-flat-requires c κs = search rules
+is_flat-requires : tie.Need-is_flat-requires
+is_flat-requires c κs = search rules
 
-full-shade-requires : tie.Need-full-shade-requires
-full-shade-requires c κs = search rules
+full_shade-requires : tie.Need-full_shade-requires
+full_shade-requires c κs = search rules
 
 color-requires : tie.Need-color-requires
 color-requires c κs = search rules
 
-enum-known-r : tie.Need-enum-known-r
-enum-known-r c = search rules
+enum_known-r : tie.Need-enum_known-r
+enum_known-r c = search rules
 
-enum_told : tie.Need-enum-told
-enum_told c = search rules
+enum_told-1 : tie.Need-enum_told-1
+enum_told-1 c = search rules
 
 -- the colour that the code took apart, and the test that it came by
-shown : (k : tie.After-color) → k.color.result ≡ color_of k.before.before.before.before.args.self full_shade
-shown k = k.color.ensures.1 ∙ ap (color_of k.before.before.before.before.args.self) k.before.full-shade.ensures
+shown : (k : tie.After-color) → k.color.result ≡ color_of k.args.self full_shade
+shown k = k.color.ensures.1 ∙ ap (color_of k.args.self) k.full_shade.ensures
 
-opened : (k : tie.After-color) → flat k.before.before.before.before.args.self.selectors ≡ true
-opened k = sym k.before.before.before.is-flat.ensures ∙ k.before.before.if1.true
+opened : (k : tie.After-color) → flat k.args.self.selectors ≡ true
+opened k = sym k.is_flat.ensures ∙ k.if-is_flat.true
+
+returns-in_default : tie.Need-returns-in_default
+unfolding strict_of
+returns-in_default c =
+    let k = c.before in
+    meant strict_means (strict-means _)
+    (λ i. cond (sym (opened k) i) (word_of_color (sym (sym (shown k) ∙ c.in_default.is) i)) Nothing)
+
+strict_word-requires : tie.Need-strict_word-requires
+strict_word-requires c κs = search rules
+
+returns-then-is_flat : tie.Need-returns-then-is_flat
+unfolding strict_of
+returns-then-is_flat c =
+    let k = c.before.before in
+    meant strict_means (strict-means _)
+    (c.strict_word.ensures
+    ∙ (λ i. cond (sym (opened k) i) (word_of_color (sym (sym (shown k) ∙ c.in-Value.is) i)) Nothing))
 
 returns : tie.Need-returns
 unfolding strict_of
 returns c =
-    let k = c.before.before in
     meant strict_means (strict-means _)
-    (λ i. cond (sym (opened k) i) (word_of_color (sym (sym (shown k) ∙ c.enum_told.given.1) i)) Nothing)
+    (λ i. cond (sym (sym c.is_flat.ensures ∙ c.if-is_flat.false) i) (word_of_color (color_of c.args.self full_shade)) Nothing)
 
-strict-word-requires : tie.Need-strict-word-requires
-strict-word-requires c κs = search rules
-
-returns-2 : tie.Need-returns-2
-unfolding strict_of
-returns-2 c =
-    let k = c.before.before.before.before in
-    meant strict_means (strict-means _)
-    (c.strict_word.ensures
-    ∙ (λ i. cond (sym (opened k) i) (word_of_color (sym (sym (shown k) ∙ c.before.before.r.given.1) i)) Nothing))
-
-returns-3 : tie.Need-returns-3
-unfolding strict_of
-returns-3 c =
-    meant strict_means (strict-means _)
-    (λ i. cond (sym (sym c.before.is-flat.ensures ∙ c.if1.false) i) (word_of_color (color_of c.before.before.args.self full_shade)) Nothing)
-
-pub strict-color-spec : {M : Type 1} → statement M
-strict-color-spec =
+pub strict_color_spec : {M : Type 1} → statement M
+strict_color_spec =
     tie.close
     (tie.spec
-    is-flat-requires
-    full-shade-requires
+    is_flat-requires
+    full_shade-requires
     color-requires
-    enum-known-r
-    enum_told
-    returns
-    strict-word-requires
-    returns-2
-    returns-3)
+    enum_known-r
+    enum_told-1
+    returns-in_default
+    strict_word-requires
+    returns-then-is_flat
+    returns)
