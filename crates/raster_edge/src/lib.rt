@@ -1,3 +1,5 @@
+#![tactic(auto)]
+
 // One edge of a triangle or of a rectangle in whole numbers (the Rust's rasterize): its x on a quarter line, what lies between two edges there, and what bounds four lines.
 ghost use Rattle.std.specs.Prelude.{◌≡◌, ◌<◌, ◌≤◌, pos, nat_abs, ◌≤ℤ◌};
 ghost use Rattle.raster_edge.specs.Limits.{Tame};
@@ -9,7 +11,7 @@ ghost use Rattle.raster_edge.specs.Bound.{outer_of, tip_of, outermost_of, clamp_
 use raster_range::Range;
 
 // An edge: its x on quarter line `base`, in 2^-16 of a pixel, and its step for each whole line in 2^-16 of a pixel.
-#[derive(Drop)]
+#[derive(Clone, Copy)]
 pub struct Edge {
     pub start: i64,
     pub step: i64,
@@ -17,7 +19,7 @@ pub struct Edge {
 }
 
 // What a shape spans on a quarter line, in eighths of a pixel.
-#[derive(Drop)]
+#[derive(Clone, Copy)]
 pub struct Span {
     pub l: i64,
     pub r: i64,

@@ -28,29 +28,29 @@ den_held s = subst (λ (z : ℤ). Held (of_z w64 s.args.den) z 1099511627776) (a
 den_pos : (s : tie.Start) → 0 < nat_abs s.args.den
 den_pos s = (as_pos s.args.den s.requires.2).1
 
-sub-result : tie.Need-overflow-sub-result
-sub-result c = fit_sub (lit 0 tt) (num_held c.before) tt
+overflow_sub-result : tie.Need-overflow_sub-result
+overflow_sub-result c = fit_sub (lit 0 tt) (num_held c.before) tt
 
-add-result : tie.Need-overflow-add-result
-add-result c = fit_add (sub (lit 0 tt) (num_held c.before) tt) (den_held c.before) tt
+overflow_add-result : tie.Need-overflow_add-result
+overflow_add-result c = fit_add (sub (lit 0 tt) (num_held c.before) tt) (den_held c.before) tt
 
-sub-result-2 : tie.Need-overflow-sub-result-2
-sub-result-2 c = fit_sub (add (sub (lit 0 tt) (num_held c.before) tt) (den_held c.before) tt) (lit 1 tt) tt
+overflow_sub-result-then-num-lt0 : tie.Need-overflow_sub-result-then-num-lt0
+overflow_sub-result-then-num-lt0 c = fit_sub (add (sub (lit 0 tt) (num_held c.before) tt) (den_held c.before) tt) (lit 1 tt) tt
 
-div-result : tie.Need-nonzero-div-result
-div-result c = fit_quot (sub (add (sub (lit 0 tt) (num_held c.before) tt) (den_held c.before) tt) (lit 1 tt) tt) (den_held c.before) (den_pos c.before) tt
+nonzero_div-result : tie.Need-nonzero_div-result
+nonzero_div-result c = fit_quot (sub (add (sub (lit 0 tt) (num_held c.before) tt) (den_held c.before) tt) (lit 1 tt) tt) (den_held c.before) (den_pos c.before) tt
 
-sub-result-3 : tie.Need-overflow-sub-result-3
-sub-result-3 c = fit_sub (lit 0 tt) (quot (sub (add (sub (lit 0 tt) (num_held c.before) tt) (den_held c.before) tt) (lit 1 tt) tt) (den_held c.before) (den_pos c.before) tt) tt
+overflow_sub-result-then-num-lt0-2 : tie.Need-overflow_sub-result-then-num-lt0-2
+overflow_sub-result-then-num-lt0-2 c = fit_sub (lit 0 tt) (quot (sub (add (sub (lit 0 tt) (num_held c.before) tt) (den_held c.before) tt) (lit 1 tt) tt) (den_held c.before) (den_pos c.before) tt) tt
 
-add-result-2 : tie.Need-overflow-add-result-2
-add-result-2 c = fit_add (num_held c.before) (den_held c.before) tt
+overflow_add-result-else-num-lt0 : tie.Need-overflow_add-result-else-num-lt0
+overflow_add-result-else-num-lt0 c = fit_add (num_held c.before) (den_held c.before) tt
 
-sub-result-4 : tie.Need-overflow-sub-result-4
-sub-result-4 c = fit_sub (add (num_held c.before) (den_held c.before) tt) (lit 1 tt) tt
+overflow_sub-result-else-num-lt0 : tie.Need-overflow_sub-result-else-num-lt0
+overflow_sub-result-else-num-lt0 c = fit_sub (add (num_held c.before) (den_held c.before) tt) (lit 1 tt) tt
 
-div-result-2 : tie.Need-nonzero-div-result-2
-div-result-2 c = fit_quot (sub (add (num_held c.before) (den_held c.before) tt) (lit 1 tt) tt) (den_held c.before) (den_pos c.before) tt
+nonzero_div-result-else-num-lt0 : tie.Need-nonzero_div-result-else-num-lt0
+nonzero_div-result-else-num-lt0 c = fit_quot (sub (add (num_held c.before) (den_held c.before) tt) (lit 1 tt) tt) (den_held c.before) (den_pos c.before) tt
 
 less_one : (n : ℕ) → 0 < n → pos n -ℤ pos 1 ≡ pos (n - 1)
 less_one n h = rw (le-ltb n 1 h)
@@ -65,29 +65,29 @@ above : (z : ℤ) (d : ℕ) → 0 < d → lt_z z (pos 0) ≡ false → quot_z (z
 above (pos a) d h t = ap (λ (y : ℤ). quot_z y (pos d)) (less_one (a + d) (omega arith))
 above (negsuc a) d h t = cc
 
-returns : tie.Need-returns
-returns c =
+returns-then-num-lt0 : tie.Need-returns-then-num-lt0
+returns-then-num-lt0 c =
     let s = c.before in
     (sub (lit 0 tt) (quot (sub (add (sub (lit 0 tt) (num_held s) tt) (den_held s) tt) (lit 1 tt) tt) (den_held s) (den_pos s) tt) tt).read
-    ∙ below s.args.num (nat_abs s.args.den) (den_pos s) (sym (lt_is (num_held s) (lit 0 tt)) ∙ c.if1.true)
+    ∙ below s.args.num (nat_abs s.args.den) (den_pos s) (sym (lt_is (num_held s) (lit 0 tt)) ∙ c.if-num-lt0.true)
 
-returns-2 : tie.Need-returns-2
-returns-2 c =
+returns-else-num-lt0 : tie.Need-returns-else-num-lt0
+returns-else-num-lt0 c =
     let s = c.before in
     (quot (sub (add (num_held s) (den_held s) tt) (lit 1 tt) tt) (den_held s) (den_pos s) tt).read
-    ∙ above s.args.num (nat_abs s.args.den) (den_pos s) (sym (lt_is (num_held s) (lit 0 tt)) ∙ c.if1.false)
+    ∙ above s.args.num (nat_abs s.args.den) (den_pos s) (sym (lt_is (num_held s) (lit 0 tt)) ∙ c.if-num-lt0.false)
 
-pub away-spec : {M : Type 1} → statement M
-away-spec =
+pub away_spec : {M : Type 1} → statement M
+away_spec =
     tie.close
     (tie.spec
-    sub-result
-    add-result
-    sub-result-2
-    div-result
-    sub-result-3
-    add-result-2
-    sub-result-4
-    div-result-2
-    returns
-    returns-2)
+    overflow_sub-result
+    overflow_add-result
+    overflow_sub-result-then-num-lt0
+    nonzero_div-result
+    overflow_sub-result-then-num-lt0-2
+    overflow_add-result-else-num-lt0
+    overflow_sub-result-else-num-lt0
+    nonzero_div-result-else-num-lt0
+    returns-then-num-lt0
+    returns-else-num-lt0)

@@ -34,35 +34,35 @@ module _ (s : tie.Start) where
   low_test = lt_is (any s.ranges.z) (uns {B = 2 ^ 32} (le_of_lt s.ranges.lo.fits) tt)
 
   high_test : lt_z (to_z w64 (of_z w64 s.args.z)) (to_z w64 s.args.hi) ≡ lt_z s.args.z (pos s.args.hi)
-  high_test = lt_is (any s.fits.z) (uns {B = 2 ^ 32} (le_of_lt s.fits.hi.fits) tt)
+  high_test = lt_is (any s.ranges.z) (uns {B = 2 ^ 32} (le_of_lt s.ranges.hi.fits) tt)
 
-cast-if1 : tie.Need-overflow-cast-if1
-cast-if1 c = search rules
+overflow_cast-lo : tie.Need-overflow_cast-lo
+overflow_cast-lo c = search rules
 
-cast-if2 : tie.Need-overflow-cast-if2
-cast-if2 c = search rules
+overflow_cast-hi : tie.Need-overflow_cast-hi
+overflow_cast-hi c = search rules
 
-returns : tie.Need-returns
-returns c = let s = c.before in under s.args.z s.args.lo s.args.hi s.requires (sym (low_test s) ∙ c.if1.true)
+returns-then-z-lo : tie.Need-returns-then-z-lo
+returns-then-z-lo c = let s = c.before in under s.args.z s.args.lo s.args.hi s.requires (sym (low_test s) ∙ c.if-z-lo.true)
 
-inside : (c : tie.Then2) → let z = c.before.before.args.z in T (non_neg z) × (nat_abs z < c.before.before.args.hi) × (nat_abs z ≡ clamp_of z c.before.before.args.lo c.before.before.args.hi)
+inside : (c : tie.Then-z-hi) → let z = c.args.z in T (non_neg z) × (nat_abs z < c.args.hi) × (nat_abs z ≡ clamp_of z c.args.lo c.args.hi)
 inside c =
     let s = c.before.before in
-    within s.args.z s.args.lo s.args.hi (sym (low_test s) ∙ c.before.if1.false) (sym (high_test s) ∙ c.if2.true)
+    within s.args.z s.args.lo s.args.hi (sym (low_test s) ∙ c.if-z-lo.false) (sym (high_test s) ∙ c.if-z-hi.true)
 
-cast-result : tie.Need-overflow-cast-result
-cast-result c =
+overflow_cast-result : tie.Need-overflow_cast-result
+overflow_cast-result c =
     let s = c.before.before in
     let w = inside c in
     rw (any s.ranges.z).read (w.0, record { fits = omega (arith, w.1, s.ranges.hi.fits) })
 
-returns-2 : tie.Need-returns-2
-returns-2 c = ap nat_abs (any c.before.before.ranges.z).read ∙ (inside c).2
+returns-then-z-hi : tie.Need-returns-then-z-hi
+returns-then-z-hi c = ap nat_abs (any c.ranges.z).read ∙ (inside c).2
 
-returns-3 : tie.Need-returns-3
-returns-3 c =
+returns : tie.Need-returns
+returns c =
     let s = c.before.before in
-    over s.args.z s.args.lo s.args.hi s.requires (sym (low_test s) ∙ c.before.if1.false) (sym (high_test s) ∙ c.if2.false)
+    over s.args.z s.args.lo s.args.hi s.requires (sym (low_test s) ∙ c.if-z-lo.false) (sym (high_test s) ∙ c.if-z-hi.false)
 
 pub clamp_spec : {M : Type 1} → statement M
-clamp_spec = tie.close (tie.spec cast-if1 returns cast-if2 cast-result returns-2 returns-3)
+clamp_spec = tie.close (tie.spec overflow_cast-lo returns-then-z-lo overflow_cast-hi overflow_cast-result returns-then-z-hi returns)

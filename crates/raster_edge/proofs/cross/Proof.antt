@@ -6,8 +6,8 @@ use Rattle.raster_edge.proofs.Held.{back}
 use Rattle.raster_edge.proofs.cross.Statement.{statement}
 use Rattle.raster_edge.proofs.cross.Tie as tie
 
-edge-at-requires : tie.Need-edge-at-requires
-edge-at-requires c κs = search rules
+edge_at-requires : tie.Need-edge_at-requires
+edge_at-requires c κs = search rules
 
 quantize-requires : tie.Need-quantize-requires
 quantize-requires c κs = search rules
@@ -15,8 +15,8 @@ quantize-requires c κs = search rules
 returns : tie.Need-returns
 unfolding cross_of
 returns c =
-    back c.quantize.result c.quantize.type-inv ∙ c.quantize.ensures
-    ∙ ap quantized (back c.before.edge_at.result c.before.edge_at.type-inv ∙ c.before.edge_at.ensures)
+    back c.quantize.result c.quantize.type_inv ∙ c.quantize.ensures
+    ∙ ap quantized (back c.edge_at.result c.edge_at.type_inv ∙ c.edge_at.ensures)
 
-pub cross-spec : {M : Type 1} → statement M
-cross-spec = tie.close (tie.spec edge-at-requires quantize-requires returns)
+pub cross_spec : {M : Type 1} → statement M
+cross_spec = tie.close (tie.spec edge_at-requires quantize-requires returns)

@@ -6,22 +6,22 @@ use Rattle.raster_edge.proofs.Held.{small, uns, add, fit_add, sub, fit_sub, mul,
 use Rattle.raster_edge.proofs.edge_at.Statement.{statement}
 use Rattle.raster_edge.proofs.edge_at.Tie as tie
 
-cast-result : tie.Need-overflow-cast-result
-cast-result c = search rules
+overflow_cast-result : tie.Need-overflow_cast-result
+overflow_cast-result c = search rules
 
-sub-result : tie.Need-overflow-sub-result
-sub-result c =
+overflow_sub-result : tie.Need-overflow_sub-result
+overflow_sub-result c =
     let s = c.before.before.before in
     fit_sub (uns s.requires.1 tt) (small s.args.e.base s.requires.0.base_small tt) tt
 
-mul-result : tie.Need-overflow-mul-result
-mul-result c =
+overflow_mul-result : tie.Need-overflow_mul-result
+overflow_mul-result c =
     let s = c.before.before.before in
     let rows = sub (uns s.requires.1 tt) (small s.args.e.base s.requires.0.base_small tt) tt in
     fit_mul (low (shr (small s.args.e.step s.requires.0.step_small tt) 4 tt) 63 1 refl tt) rows tt
 
-add-result : tie.Need-overflow-add-result
-add-result c =
+overflow_add-result : tie.Need-overflow_add-result
+overflow_add-result c =
     let s = c.before.before.before in
     let rows = sub (uns s.requires.1 tt) (small s.args.e.base s.requires.0.base_small tt) tt in
     let step = low (shr (small s.args.e.step s.requires.0.step_small tt) 4 tt) 63 1 refl tt in
@@ -35,5 +35,5 @@ returns c =
     let step = low (shr (small s.args.e.step s.requires.0.step_small tt) 4 tt) 63 1 refl tt in
     (add (small s.args.e.start s.requires.0.start_small tt) (mul step rows tt) tt).read
 
-pub edge-at-spec : {M : Type 1} → statement M
-edge-at-spec = tie.close (tie.spec cast-result sub-result mul-result add-result returns)
+pub edge_at_spec : {M : Type 1} → statement M
+edge_at_spec = tie.close (tie.spec overflow_cast-result overflow_sub-result overflow_mul-result overflow_add-result returns)

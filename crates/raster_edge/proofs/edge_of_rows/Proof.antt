@@ -8,17 +8,17 @@ use Rattle.raster_edge.proofs.Held.{back}
 use Rattle.raster_edge.proofs.edge_of_rows.Statement.{statement}
 use Rattle.raster_edge.proofs.edge_of_rows.Tie as tie
 
-mul-a : tie.Need-overflow-mul-a
-mul-a c = search rules
+offset_bounds-e-i : tie.Need-offset_bounds-e-i
+offset_bounds-e-i c = search rules
 
-array-copy-out-a : tie.Need-array-copy-out-a
-array-copy-out-a c = search rules
+bounds-e-i : tie.Need-bounds-e-i
+bounds-e-i c = search rules
 
-mul-b : tie.Need-overflow-mul-b
-mul-b c = search rules
+offset_bounds-e-j : tie.Need-offset_bounds-e-j
+offset_bounds-e-j c = search rules
 
-array-copy-out-b : tie.Need-array-copy-out-b
-array-copy-out-b c = search rules
+bounds-e-j : tie.Need-bounds-e-j
+bounds-e-j c = search rules
 
 outer-requires : tie.Need-outer-requires
 outer-requires c κs = search rules
@@ -30,13 +30,13 @@ returns : tie.Need-returns
 unfolding edge_of_rows
 returns c =
     let o = c.before in
-    let s = o.before.before.before.args in
-    let a = back (get_or s.t1 s.i (pos 0)) o.before.before.a.given in
-    let b = back (get_or s.t1 s.j (pos 0)) o.before.b.given in
-    let p = back o.outer.result o.outer.type-inv ∙ o.outer.ensures ∙ (λ i. outer_of s.low (a i) (b i)) in
+    let s = o.args in
+    let a = back (get_or s.e s.i (pos 0)) o.a-1.given in
+    let b = back (get_or s.e s.j (pos 0)) o.b-1.given in
+    let p = back o.outer.result o.outer.type_inv ∙ o.outer.ensures ∙ (λ i. outer_of s.low (a i) (b i)) in
     c.clamp.ensures ∙ (λ i. clamp_of (p i) 0 8192)
 
-pub edge-of-rows-spec : {M : Type 1} → statement M
-edge-of-rows-spec =
+pub edge_of_rows_spec : {M : Type 1} → statement M
+edge_of_rows_spec =
     tie.close
-    (tie.spec mul-a array-copy-out-a mul-b array-copy-out-b outer-requires clamp-requires returns)
+    (tie.spec offset_bounds-e-i bounds-e-i offset_bounds-e-j bounds-e-j outer-requires clamp-requires returns)

@@ -1,6 +1,5 @@
 -- `raster_edge::four` meets its contract, by that of `cross` four times. Assumes nothing.
-use Prim.Native.Nat.{◌+◌}
-use mathlib.Core.Path.{◌≡◌, sym, ap, ◌∙◌}
+use mathlib.Core.Path.{sym, ap, ◌∙◌}
 use mathlib.Core.List.{[], ◌∷◌}
 use native.Mathlib.Nat.{add-zero}
 use Rattle.raster_edge.specs.Edge.{cross_of}
@@ -10,26 +9,26 @@ use borrow.Author.Rules.{rules}
 use Rattle.raster_edge.proofs.four.Statement.{statement}
 use Rattle.raster_edge.proofs.four.Tie as tie
 
-cross-requires : tie.Need-cross-requires
-cross-requires c κs = search rules
+cross-a-requires : tie.Need-cross-a-requires
+cross-a-requires c κs = search rules
 
-add-cross : tie.Need-overflow-add-cross
-add-cross c = search rules
+overflow_add-n : tie.Need-overflow_add-n
+overflow_add-n c = search rules
 
-cross-requires-2 : tie.Need-cross-requires-2
-cross-requires-2 c κs = search rules
+cross-b-requires : tie.Need-cross-b-requires
+cross-b-requires c κs = search rules
 
-add-cross-2 : tie.Need-overflow-add-cross-2
-add-cross-2 c = search rules
+overflow_add-n-2 : tie.Need-overflow_add-n-2
+overflow_add-n-2 c = search rules
 
-cross-requires-3 : tie.Need-cross-requires-3
-cross-requires-3 c κs = search rules
+cross-c-requires : tie.Need-cross-c-requires
+cross-c-requires c κs = search rules
 
-add-cross-3 : tie.Need-overflow-add-cross-3
-add-cross-3 c = search rules
+overflow_add-n-3 : tie.Need-overflow_add-n-3
+overflow_add-n-3 c = search rules
 
-cross-requires-4 : tie.Need-cross-requires-4
-cross-requires-4 c κs = search rules
+cross-d-requires : tie.Need-cross-d-requires
+cross-d-requires c κs = search rules
 
 returns : tie.Need-returns
 unfolding four_of
@@ -37,22 +36,22 @@ returns c =
     let d₃ = c.before in
     let d₂ = d₃.before in
     let d₁ = d₂.before in
-    let a = d₁.before.args in
-    let p = back d₁.cross.result d₁.cross.type-inv ∙ d₁.cross.ensures ∙ ap (cross_of a.e) (sym (add-zero a.n)) in
-    let q = back d₂.cross2.result d₂.cross2.type-inv ∙ d₂.cross2.ensures in
-    let r = back d₃.cross3.result d₃.cross3.type-inv ∙ d₃.cross3.ensures in
-    let s = back c.cross4.result c.cross4.type-inv ∙ c.cross4.ensures in
+    let a = d₁.args in
+    let p = back d₁.cross-a.result d₁.cross-a.type_inv ∙ d₁.cross-a.ensures ∙ ap (cross_of a.e) (sym (add-zero a.n)) in
+    let q = back d₂.cross-b.result d₂.cross-b.type_inv ∙ d₂.cross-b.ensures in
+    let r = back d₃.cross-c.result d₃.cross-c.type_inv ∙ d₃.cross-c.ensures in
+    let s = back c.cross-d.result c.cross-d.type_inv ∙ c.cross-d.ensures in
     λ i. p i ∷ q i ∷ r i ∷ s i ∷ []
 
-pub four-spec : {M : Type 1} → statement M
-four-spec =
+pub four_spec : {M : Type 1} → statement M
+four_spec =
     tie.close
     (tie.spec
-    cross-requires
-    add-cross
-    cross-requires-2
-    add-cross-2
-    cross-requires-3
-    add-cross-3
-    cross-requires-4
+    cross-a-requires
+    overflow_add-n
+    cross-b-requires
+    overflow_add-n-2
+    cross-c-requires
+    overflow_add-n-3
+    cross-d-requires
     returns)

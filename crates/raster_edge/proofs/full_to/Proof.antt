@@ -7,27 +7,27 @@ use Rattle.raster_edge.proofs.Clamped.{rows_le}
 use Rattle.raster_edge.proofs.full_to.Statement.{statement}
 use Rattle.raster_edge.proofs.full_to.Tie as tie
 
-edge-of-rows-requires : tie.Need-edge-of-rows-requires
-edge-of-rows-requires c κs = search rules
+edge_of_rows-a-requires : tie.Need-edge_of_rows-a-requires
+edge_of_rows-a-requires c κs = search rules
 
-add_a : tie.Need-overflow-add-a
-add_a c = record { fits = omega (arith, c.edge-of-rows.ensures, rows_le c.before.args.r 0 2 true) }
+overflow_add-a : tie.Need-overflow_add-a
+overflow_add-a c = record { fits = omega (arith, c.edge_of_rows-a.ensures, rows_le c.args.r 0 2 true) }
 
-edge-of-rows-requires-2 : tie.Need-edge-of-rows-requires-2
-edge-of-rows-requires-2 c κs = search rules
+edge_of_rows-b-requires : tie.Need-edge_of_rows-b-requires
+edge_of_rows-b-requires c κs = search rules
 
-add-b : tie.Need-overflow-add-b
-add-b c = record { fits = omega (arith, c.edge-of-rows2.ensures, rows_le c.before.before.args.r 1 3 true) }
+overflow_add-b : tie.Need-overflow_add-b
+overflow_add-b c = record { fits = omega (arith, c.edge_of_rows-b.ensures, rows_le c.args.r 1 3 true) }
+
+returns-then-a-b : tie.Need-returns-then-a-b
+unfolding full_to
+returns-then-a-b c = omega arith
 
 returns : tie.Need-returns
 unfolding full_to
 returns c = omega arith
 
-returns-2 : tie.Need-returns-2
-unfolding full_to
-returns-2 c = omega arith
-
-pub full-to-spec : {M : Type 1} → statement M
-full-to-spec =
+pub full_to_spec : {M : Type 1} → statement M
+full_to_spec =
     tie.close
-    (tie.spec edge-of-rows-requires add_a edge-of-rows-requires-2 add-b returns returns-2)
+    (tie.spec edge_of_rows-a-requires overflow_add-a edge_of_rows-b-requires overflow_add-b returns-then-a-b returns)

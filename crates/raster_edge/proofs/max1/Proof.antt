@@ -19,14 +19,14 @@ above : (z : ℤ) → lt_z z (pos 1) ≡ false → z ≡ pos (at_least_one z)
 above (pos a) h = ap pos (omega (arith, ltb-false a 1 h))
 above (negsuc a) h = cc
 
-returns : tie.Need-returns
-returns c = let z = c.before.args.z in ap pos (below z (ap (λ (t : ℤ). lt_z t (pos 1)) (sym (to_z-of_z w64 z c.before.ranges.z)) ∙ c.if1.true))
+returns-then-z-lt1 : tie.Need-returns-then-z-lt1
+returns-then-z-lt1 c = let z = c.args.z in ap pos (below z (ap (λ (t : ℤ). lt_z t (pos 1)) (sym (to_z-of_z w64 z c.ranges.z)) ∙ c.if-z-lt1.true))
 
-returns-2 : tie.Need-returns-2
-returns-2 c =
-    let z = c.before.args.z in
-    let e = to_z-of_z w64 z c.before.ranges.z in
-    e ∙ above z (ap (λ (t : ℤ). lt_z t (pos 1)) (sym e) ∙ c.if1.false)
+returns-else-z-lt1 : tie.Need-returns-else-z-lt1
+returns-else-z-lt1 c =
+    let z = c.args.z in
+    let e = to_z-of_z w64 z c.ranges.z in
+    e ∙ above z (ap (λ (t : ℤ). lt_z t (pos 1)) (sym e) ∙ c.if-z-lt1.false)
 
-pub max1-spec : {M : Type 1} → statement M
-max1-spec = tie.close (tie.spec returns returns-2)
+pub max1_spec : {M : Type 1} → statement M
+max1_spec = tie.close (tie.spec returns-then-z-lt1 returns-else-z-lt1)

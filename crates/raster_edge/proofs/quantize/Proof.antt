@@ -16,8 +16,8 @@ use Rattle.raster_edge.proofs.Bits.{or_low, and_field, floor_fits}
 use Rattle.raster_edge.proofs.quantize.Statement.{statement}
 use Rattle.raster_edge.proofs.quantize.Tie as tie
 
-cast-result : tie.Need-overflow-cast-result
-cast-result c = search rules
+overflow_cast-result : tie.Need-overflow_cast-result
+overflow_cast-result c = search rules
 
 -- a field of bits that is not 0, as a number
 bit-of : (n : ℕ) → pos (bool_byte (not (eqb (n * 2) 0))) ≡ sticky n
@@ -40,5 +40,5 @@ returns c =
     rw (to_z-of_z w64 x f, and_field 50 13 1 refl x f, or_low 63 1 refl y b g s)
     (to_z-of_z w64 (floor_to y 2 +ℤ pos b) (floor_fits 62 1 refl y b g s) ∙ ap (λ (t : ℤ). floor_to y 2 +ℤ t) (bit-of (mod_z x 16384 / 2)))
 
-pub quantize-spec : {M : Type 1} → statement M
-quantize-spec = tie.close (tie.spec cast-result returns)
+pub quantize_spec : {M : Type 1} → statement M
+quantize_spec = tie.close (tie.spec overflow_cast-result returns)

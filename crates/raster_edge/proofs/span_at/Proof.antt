@@ -6,27 +6,27 @@ use borrow.Author.Rules.{rules}
 use Rattle.raster_edge.proofs.span_at.Statement.{statement}
 use Rattle.raster_edge.proofs.span_at.Tie as tie
 
-cross-requires : tie.Need-cross-requires
-cross-requires c κs = search rules
+cross-m-requires : tie.Need-cross-m-requires
+cross-m-requires c κs = search rules
 
-cross-requires-2 : tie.Need-cross-requires-2
-cross-requires-2 c κs = search rules
+cross-n-requires : tie.Need-cross-n-requires
+cross-n-requires c κs = search rules
 
-returns : tie.Need-returns
+returns-then-rightward : tie.Need-returns-then-rightward
 unfolding span_of
-returns c =
+returns-then-rightward c =
     let d = c.before in
-    let m = back d.before.cross.result d.before.cross.type-inv ∙ d.before.cross.ensures in
-    let n = back d.cross2.result d.cross2.type-inv ∙ d.cross2.ensures in
-    λ i. span_by (sym c.if1.true i) (m i) (n i)
+    let m = back d.cross-m.result d.cross-m.type_inv ∙ d.cross-m.ensures in
+    let n = back d.cross-n.result d.cross-n.type_inv ∙ d.cross-n.ensures in
+    λ i. span_by (sym c.if-rightward.true i) (m i) (n i)
 
-returns-2 : tie.Need-returns-2
+returns-else-rightward : tie.Need-returns-else-rightward
 unfolding span_of
-returns-2 c =
+returns-else-rightward c =
     let d = c.before in
-    let m = back d.before.cross.result d.before.cross.type-inv ∙ d.before.cross.ensures in
-    let n = back d.cross2.result d.cross2.type-inv ∙ d.cross2.ensures in
-    λ i. span_by (sym c.if1.false i) (m i) (n i)
+    let m = back d.cross-m.result d.cross-m.type_inv ∙ d.cross-m.ensures in
+    let n = back d.cross-n.result d.cross-n.type_inv ∙ d.cross-n.ensures in
+    λ i. span_by (sym c.if-rightward.false i) (m i) (n i)
 
-pub span-at-spec : {M : Type 1} → statement M
-span-at-spec = tie.close (tie.spec cross-requires cross-requires-2 returns returns-2)
+pub span_at_spec : {M : Type 1} → statement M
+span_at_spec = tie.close (tie.spec cross-m-requires cross-n-requires returns-then-rightward returns-else-rightward)

@@ -24,62 +24,62 @@ last_fits (pos a) (negsuc b) h k t = absurd (true≢false (sym t))
 last_fits (negsuc a) (negsuc b) h k t = record { sfits = omega (arith, ltb-true b a t) }
 
 -- the line's edges, and the code's test, of the edges themselves
-module _ (b : tie.After-b) where
+module _ (b : tie.After-b-1) where
   abbrev l : ℤ
-  l = get_or b.before.before.args.t1 b.before.before.args.s (pos 0)
+  l = get_or b.args.l b.args.s (pos 0)
 
   abbrev r : ℤ
-  r = get_or b.before.before.args.t2 b.before.before.args.s (pos 0)
+  r = get_or b.args.r b.args.s (pos 0)
 
   test : {t : Bool} → lt_z (to_z w64 (of_z w64 l)) (to_z w64 (of_z w64 r)) ≡ t → t ≡ lt_z l r
-  test e = sym e ∙ lt_is (got l b.before.a.given) (got r b.b.given)
+  test e = sym e ∙ lt_is (got l b.a-1.given) (got r b.b-1.given)
 
-  by : {t low : Bool} → lt_z (to_z w64 (of_z w64 l)) (to_z w64 (of_z w64 r)) ≡ t → b.before.before.args.low ≡ low → tip_by t low l r ≡ tip_by (lt_z l r) b.before.before.args.low l r
+  by : {t low : Bool} → lt_z (to_z w64 (of_z w64 l)) (to_z w64 (of_z w64 r)) ≡ t → b.args.low ≡ low → tip_by t low l r ≡ tip_by (lt_z l r) b.args.low l r
   by e f = λ i. tip_by (test e i) (sym f i) l r
 
-mul-a : tie.Need-overflow-mul-a
-mul-a c = search rules
+offset_bounds-l-s : tie.Need-offset_bounds-l-s
+offset_bounds-l-s c = search rules
 
-array-copy-out-a : tie.Need-array-copy-out-a
-array-copy-out-a c = search rules
+bounds-l-s : tie.Need-bounds-l-s
+bounds-l-s c = search rules
 
-mul-b : tie.Need-overflow-mul-b
-mul-b c = search rules
+offset_bounds-r-s : tie.Need-offset_bounds-r-s
+offset_bounds-r-s c = search rules
 
-array-copy-out-b : tie.Need-array-copy-out-b
-array-copy-out-b c = search rules
+bounds-r-s : tie.Need-bounds-r-s
+bounds-r-s c = search rules
+
+returns-then-low : tie.Need-returns-then-low
+returns-then-low c =
+    let b = c.before.before in
+    back (l b) b.a-1.given ∙ by b c.if-a-b.true c.if-low.true
+
+overflow_sub-result : tie.Need-overflow_sub-result
+overflow_sub-result c =
+    let b = c.before.before in
+    subst⁻¹ (λ (z : ℤ). SFits w64 (z -ℤ pos 1)) (back (r b) b.b-1.given) (last_fits (l b) (r b) b.a-1.given b.b-1.given (sym (test b c.if-a-b.true)))
+
+returns-then-a-b : tie.Need-returns-then-a-b
+returns-then-a-b c =
+    let b = c.before.before in
+    to_z-of_z w64 _ (overflow_sub-result c) ∙ ap (λ (z : ℤ). z -ℤ pos 1) (back (r b) b.b-1.given) ∙ by b c.if-a-b.true c.if-low.false
+
+returns-then-low-2 : tie.Need-returns-then-low-2
+returns-then-low-2 c = by c.before.before c.if-a-b.false c.if-low-2.true
 
 returns : tie.Need-returns
-returns c =
-    let b = c.before.before in
-    back (l b) b.before.a.given ∙ by b c.before.if1.true c.if2.true
+returns c = by c.before.before c.if-a-b.false c.if-low-2.false
 
-sub-result : tie.Need-overflow-sub-result
-sub-result c =
-    let b = c.before.before in
-    subst⁻¹ (λ (z : ℤ). SFits w64 (z -ℤ pos 1)) (back (r b) b.b.given) (last_fits (l b) (r b) b.before.a.given b.b.given (sym (test b c.before.if1.true)))
-
-returns-2 : tie.Need-returns-2
-returns-2 c =
-    let b = c.before.before in
-    to_z-of_z w64 _ (sub-result c) ∙ ap (λ (z : ℤ). z -ℤ pos 1) (back (r b) b.b.given) ∙ by b c.before.if1.true c.if2.false
-
-returns-3 : tie.Need-returns-3
-returns-3 c = by c.before.before c.before.if1.false c.if3.true
-
-returns-4 : tie.Need-returns-4
-returns-4 c = by c.before.before c.before.if1.false c.if3.false
-
-pub tip-spec : {M : Type 1} → statement M
-tip-spec =
+pub tip_spec : {M : Type 1} → statement M
+tip_spec =
     tie.close
     (tie.spec
-    mul-a
-    array-copy-out-a
-    mul-b
-    array-copy-out-b
-    returns
-    sub-result
-    returns-2
-    returns-3
-    returns-4)
+    offset_bounds-l-s
+    bounds-l-s
+    offset_bounds-r-s
+    bounds-r-s
+    returns-then-low
+    overflow_sub-result
+    returns-then-a-b
+    returns-then-low-2
+    returns)
