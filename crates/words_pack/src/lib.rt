@@ -1,4 +1,6 @@
 // Pixels as the guest's memory words: the packing of coherence.rs, with pack_depth of framebuffers.rs.
+#![tactic(auto)]
+
 ghost use Rattle.std.specs.Prelude.{◌≡◌, ◌*◌, ◌<◌, ◌≤◌, from_bits};
 ghost use Rattle.std.specs.Float.{binary32};
 ghost use Rattle.words_pack.specs.Color.{pack_channel_of, pack_color_of};

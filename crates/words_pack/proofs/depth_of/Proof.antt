@@ -7,29 +7,29 @@ use Rattle.words_pack.proofs.depth_of.Statement.{statement}
 use Rattle.words_pack.proofs.depth_of.Tie as tie
 
 held : (c : tie.Start) → T (fits binary32 c.args.depth)
-held c = passes (fits binary32 c.args.depth) c.well-formed.0.1
+held c = passes (fits binary32 c.args.depth) c.well_formed.0.1
 
-truncating-f32-to-u64-requires : tie.Need-truncating-f32-to-u64-requires
+truncating_f32_to_u64-requires : tie.Need-truncating_f32_to_u64-requires
 unfolding of_bits
-truncating-f32-to-u64-requires c κs = (inner c.before.before.args.depth (held c.before.before) c.before.if1.true c.if2.true).0
+truncating_f32_to_u64-requires c κs = (inner c.args.depth (held c.before.before) c.if-depth.true c.if-depth-2.true).0
+
+returns-then-depth-2 : tie.Need-returns-then-depth-2
+unfolding of_bits
+returns-then-depth-2 c =
+    let at = c.before in
+    c.truncating_f32_to_u64.ensures ∙ (inner at.args.depth (held at.before.before) at.if-depth.true at.if-depth-2.true).1
+
+overflow_cast-result : tie.Need-overflow_cast-result
+overflow_cast-result c = record { fits = omega (arith, returns-then-depth-2 c, depth_small c.args.depth) }
+
+returns-then-depth : tie.Need-returns-then-depth
+unfolding of_bits
+returns-then-depth c = outer c.args.depth c.if-depth.true c.if-depth-2.false
 
 returns : tie.Need-returns
 unfolding of_bits
-returns c =
-    let at = c.before in
-    c.truncating-f32-to-u64.ensures ∙ (inner at.before.before.args.depth (held at.before.before) at.before.if1.true at.if2.true).1
+returns c = none c.args.depth c.if-depth.false
 
-cast-result : tie.Need-overflow-cast-result
-cast-result c = record { fits = omega (arith, returns c, depth_small c.before.before.before.args.depth) }
-
-returns-2 : tie.Need-returns-2
-unfolding of_bits
-returns-2 c = outer c.before.before.args.depth c.before.if1.true c.if2.false
-
-returns-3 : tie.Need-returns-3
-unfolding of_bits
-returns-3 c = none c.before.args.depth c.if1.false
-
-pub depth-of-spec : {M : Type 1} → statement M
-depth-of-spec =
-    tie.close (tie.spec truncating-f32-to-u64-requires cast-result returns returns-2 returns-3)
+pub depth_of_spec : {M : Type 1} → statement M
+depth_of_spec =
+    tie.close (tie.spec truncating_f32_to_u64-requires overflow_cast-result returns-then-depth-2 returns-then-depth returns)

@@ -7,72 +7,72 @@ use Rattle.words_pack.proofs.Encoded.{literal_by}
 use Rattle.words_pack.proofs.encode_literal.Statement.{statement}
 use Rattle.words_pack.proofs.encode_literal.Tie as tie
 
-pixel-bytes-requires : tie.Need-pixel-bytes-requires
-pixel-bytes-requires c κs = search rules
+pixel_bytes-requires : tie.Need-pixel_bytes-requires
+pixel_bytes-requires c κs = search rules
 
-cast-half : tie.Need-overflow-cast-half
-cast-half c = search rules
+overflow_cast-half : tie.Need-overflow_cast-half
+overflow_cast-half c = search rules
 
-sub-bits : tie.Need-overflow-sub-bits
-sub-bits c = search rules
+overflow_sub-half : tie.Need-overflow_sub-half
+overflow_sub-half c = search rules
 
-mul-bits : tie.Need-overflow-mul-bits
-mul-bits c = search rules
+overflow_mul-half : tie.Need-overflow_mul-half
+overflow_mul-half c = search rules
 
-bits-requires : tie.Need-bits-requires
-bits-requires c κs = search rules
+bits-taken-requires : tie.Need-bits-taken-requires
+bits-taken-requires c κs = search rules
 
-cast-taken : tie.Need-overflow-cast-taken
+overflow_cast-taken : tie.Need-overflow_cast-taken
 unfolding field
-cast-taken c = record { fits = omega (arith, c.bits.ensures) }
+overflow_cast-taken c = record { fits = omega (arith, c.bits-taken.ensures) }
 
-encode-u16-requires : tie.Need-encode-u16-requires
-encode-u16-requires c κs = search rules
+encode_u16-requires : tie.Need-encode_u16-requires
+encode_u16-requires c κs = search rules
+
+returns-then-pixel_bytes-eq2 : tie.Need-returns-then-pixel_bytes-eq2
+returns-then-pixel_bytes-eq2 c =
+    let s = c.args in
+    c.encode_u16.ensures
+    ∙ ap (bytes_of s.encoding) c.bits-taken.ensures
+    ∙ sym (literal_by s.layout s.word s.pixel s.encoding _ (eq-eqb _ 2 (sym c.pixel_bytes.ensures ∙ c.if-pixel_bytes-eq2.true)))
+
+overflow_cast-place : tie.Need-overflow_cast-place
+overflow_cast-place c = search rules
+
+overflow_sub-place : tie.Need-overflow_sub-place
+overflow_sub-place c = search rules
+
+overflow_mul-place : tie.Need-overflow_mul-place
+overflow_mul-place c = search rules
+
+bits-byte-requires : tie.Need-bits-byte-requires
+bits-byte-requires c κs = search rules
+
+overflow_cast-byte : tie.Need-overflow_cast-byte
+unfolding field
+overflow_cast-byte c = record { fits = omega (arith, c.bits-byte.ensures) }
 
 returns : tie.Need-returns
 returns c =
-    let s = c.before.before.before.before.args in
-    c.encode-u16.ensures
-    ∙ ap (bytes_of s.encoding) c.before.bits.ensures
-    ∙ sym (literal_by s.layout s.word s.pixel s.encoding _ (eq-eqb _ 2 (sym c.before.before.before.pixel-bytes.ensures ∙ c.before.before.if1.true)))
+    let s = c.args in
+    ap {B = Bytes2} (λ (n : ℕ). (n, 0)) c.bits-byte.ensures
+    ∙ sym (literal_by s.layout s.word s.pixel s.encoding _ (ne_eqb _ 2 (λ e. c.if-pixel_bytes-eq2.false (c.pixel_bytes.ensures ∙ e))))
 
-cast-place : tie.Need-overflow-cast-place
-cast-place c = search rules
-
-sub-bits-2 : tie.Need-overflow-sub-bits-2
-sub-bits-2 c = search rules
-
-mul-bits-2 : tie.Need-overflow-mul-bits-2
-mul-bits-2 c = search rules
-
-bits-requires-2 : tie.Need-bits-requires-2
-bits-requires-2 c κs = search rules
-
-cast-byte : tie.Need-overflow-cast-byte
-unfolding field
-cast-byte c = record { fits = omega (arith, c.bits2.ensures) }
-
-returns-2 : tie.Need-returns-2
-returns-2 c =
-    let s = c.before.before.before.args in
-    ap {B = Bytes2} (λ (n : ℕ). (n, 0)) c.bits2.ensures
-    ∙ sym (literal_by s.layout s.word s.pixel s.encoding _ (ne_eqb _ 2 (λ e. c.before.if1.false (c.before.before.pixel-bytes.ensures ∙ e))))
-
-pub encode-literal-spec : {M : Type 1} → statement M
-encode-literal-spec =
+pub encode_literal_spec : {M : Type 1} → statement M
+encode_literal_spec =
     tie.close
     (tie.spec
-    pixel-bytes-requires
-    cast-half
-    sub-bits
-    mul-bits
-    bits-requires
-    cast-taken
-    encode-u16-requires
-    returns
-    cast-place
-    sub-bits-2
-    mul-bits-2
-    bits-requires-2
-    cast-byte
-    returns-2)
+    pixel_bytes-requires
+    overflow_cast-half
+    overflow_sub-half
+    overflow_mul-half
+    bits-taken-requires
+    overflow_cast-taken
+    encode_u16-requires
+    returns-then-pixel_bytes-eq2
+    overflow_cast-place
+    overflow_sub-place
+    overflow_mul-place
+    bits-byte-requires
+    overflow_cast-byte
+    returns)

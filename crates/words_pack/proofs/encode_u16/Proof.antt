@@ -5,25 +5,25 @@ use Rattle.words_pack.specs.declared.FramebufferEncoding.{FramebufferEncoding}
 use Rattle.words_pack.proofs.encode_u16.Statement.{statement}
 use Rattle.words_pack.proofs.encode_u16.Tie as tie
 
-cast-low : tie.Need-overflow-cast-low
-cast-low c = search rules
+overflow_cast-low : tie.Need-overflow_cast-low
+overflow_cast-low c = search rules
 
-cast-high : tie.Need-overflow-cast-high
-cast-high c = search rules
+overflow_cast-high : tie.Need-overflow_cast-high
+overflow_cast-high c = search rules
 
-enum_told : tie.Need-enum-told
-enum_told c = search rules
+enum_told-1 : tie.Need-enum_told-1
+enum_told-1 c = search rules
 
-enum-told-2 : tie.Need-enum-told-2
-enum-told-2 c = search rules
+enum_told-in-BigEndian : tie.Need-enum_told-in-BigEndian
+enum_told-in-BigEndian c = search rules
 
-returns : tie.Need-returns
+returns-in-Native : tie.Need-returns-in-Native
 unfolding bytes_of
-returns c = ap (λ (e : FramebufferEncoding). bytes_of e c.before.before.args.word) (sym c.enum_told.given.1)
+returns-in-Native c = ap (λ (e : FramebufferEncoding). bytes_of e c.args.word) (sym c.in-Native.is)
 
-returns-2 : tie.Need-returns-2
+returns-in-BigEndian : tie.Need-returns-in-BigEndian
 unfolding bytes_of
-returns-2 c = ap (λ (e : FramebufferEncoding). bytes_of e c.before.before.args.word) (sym c.enum-told2.given.1)
+returns-in-BigEndian c = ap (λ (e : FramebufferEncoding). bytes_of e c.args.word) (sym c.in-BigEndian.is)
 
-pub encode-u16-spec : {M : Type 1} → statement M
-encode-u16-spec = tie.close (tie.spec cast-low cast-high enum_told enum-told-2 returns returns-2)
+pub encode_u16_spec : {M : Type 1} → statement M
+encode_u16_spec = tie.close (tie.spec overflow_cast-low overflow_cast-high enum_told-1 enum_told-in-BigEndian returns-in-Native returns-in-BigEndian)

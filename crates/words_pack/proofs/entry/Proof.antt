@@ -5,18 +5,18 @@ use Rattle.num_bits.specs.Field.{field}
 use Rattle.words_pack.proofs.entry.Statement.{statement}
 use Rattle.words_pack.proofs.entry.Tie as tie
 
-mul-shift : tie.Need-overflow-mul-shift
-mul-shift c = search rules
+overflow_mul-shift : tie.Need-overflow_mul-shift
+overflow_mul-shift c = search rules
 
-shr-low : tie.Need-overflow-shr-low
-shr-low c = search rules
+overflow_shr-low : tie.Need-overflow_shr-low
+overflow_shr-low c = search rules
 
-cast-result : tie.Need-overflow-cast-result
-cast-result c = record { fits = omega (arith, mask_lt (c.args.square / 2 ^ (4 * c.args.index)) 3) }
+overflow_cast-result : tie.Need-overflow_cast-result
+overflow_cast-result c = record { fits = omega (arith, mask_lt (c.args.square / 2 ^ (4 * c.args.index)) 3) }
 
 returns : tie.Need-returns
 unfolding field
 returns c = and_mask (c.args.square / 2 ^ (4 * c.args.index)) 3
 
 pub entry_spec : {M : Type 1} → statement M
-entry_spec = tie.close (tie.spec mul-shift shr-low cast-result returns)
+entry_spec = tie.close (tie.spec overflow_mul-shift overflow_shr-low overflow_cast-result returns)

@@ -5,23 +5,23 @@ use Rattle.words_pack.proofs.Channel.{rounds_up, stays}
 use Rattle.words_pack.proofs.pack_channel.Statement.{statement}
 use Rattle.words_pack.proofs.pack_channel.Tie as tie
 
+returns-then-v-gt247 : tie.Need-returns-then-v-gt247
+returns-then-v-gt247 c =
+    let s = c.args in
+    omega (arith, rounds_up s.v s.threshold (omega (arith, and_mask s.v 3, c.if-low-threshold.true)))
+
+overflow_add-up : tie.Need-overflow_add-up
+overflow_add-up c = omega (arith, and_high c.args.v 5 3)
+
+returns-then-low-threshold : tie.Need-returns-then-low-threshold
+returns-then-low-threshold c =
+    let s = c.args in
+    omega (arith, and_high s.v 5 3, rounds_up s.v s.threshold (omega (arith, and_mask s.v 3, c.if-low-threshold.true)))
+
 returns : tie.Need-returns
 returns c =
-    let s = c.before.before.args in
-    omega (arith, rounds_up s.v s.threshold (omega (arith, and_mask s.v 3, c.before.if1.true)))
+    let s = c.args in
+    omega (arith, stays s.v s.threshold (omega (arith, and_mask s.v 3, c.if-low-threshold.false)))
 
-add-up : tie.Need-overflow-add-up
-add-up c = omega (arith, and_high c.before.before.args.v 5 3)
-
-returns-2 : tie.Need-returns-2
-returns-2 c =
-    let s = c.before.before.args in
-    omega (arith, and_high s.v 5 3, rounds_up s.v s.threshold (omega (arith, and_mask s.v 3, c.before.if1.true)))
-
-returns-3 : tie.Need-returns-3
-returns-3 c =
-    let s = c.before.args in
-    omega (arith, stays s.v s.threshold (omega (arith, and_mask s.v 3, c.if1.false)))
-
-pub pack-channel-spec : {M : Type 1} → statement M
-pack-channel-spec = tie.close (tie.spec returns add-up returns-2 returns-3)
+pub pack_channel_spec : {M : Type 1} → statement M
+pack_channel_spec = tie.close (tie.spec returns-then-v-gt247 overflow_add-up returns-then-low-threshold returns)

@@ -5,15 +5,15 @@ use Rattle.words_pack.proofs.Units.{depth_small}
 use Rattle.words_pack.proofs.pack_depth.Statement.{statement}
 use Rattle.words_pack.proofs.pack_depth.Tie as tie
 
-depth-of-requires : tie.Need-depth-of-requires
-depth-of-requires c κs = search rules
+depth_of-requires : tie.Need-depth_of-requires
+depth_of-requires c κs = search rules
 
-depth-word-requires : tie.Need-depth-word-requires
-depth-word-requires c κs = omega (arith, c.depth-of.ensures, depth_small c.before.args.depth)
+depth_word-requires : tie.Need-depth_word-requires
+depth_word-requires c κs = omega (arith, c.depth_of.ensures, depth_small c.args.depth)
 
 returns : tie.Need-returns
 unfolding pack_depth_of
-returns c = c.depth-word.ensures ∙ ap depth_word c.before.depth-of.ensures
+returns c = c.depth_word.ensures ∙ ap depth_word c.depth_of.ensures
 
-pub pack-depth-spec : {M : Type 1} → statement M
-pack-depth-spec = tie.close (tie.spec depth-of-requires depth-word-requires returns)
+pub pack_depth_spec : {M : Type 1} → statement M
+pack_depth_spec = tie.close (tie.spec depth_of-requires depth_word-requires returns)

@@ -12,22 +12,22 @@ of_nan nan h = refl
 of_nan (inf s) h = absurd (true≢false (sym h))
 of_nan (fin s m e) h = absurd (true≢false (sym h))
 
-returns : tie.Need-returns
-returns c =
-    let n = c.before.args.bits in
+returns-then-magnitude-gt2139095040 : tie.Need-returns-then-magnitude-gt2139095040
+returns-then-magnitude-gt2139095040 c =
+    let n = c.args.bits in
     of_nan (of_bits binary32 n) (sym (nan_bits_is binary32 n) ∙ nan_bits_above binary32 n ∙ lt-ltb 0x7f80_0000 (n % 0x8000_0000) (omega arith))
 
-float-from-bits-pack-depth : tie.Need-float-from-bits-pack-depth
-float-from-bits-pack-depth c =
-    let n = c.before.args.bits in
+float_from_bits-bits : tie.Need-float_from_bits-bits
+float_from_bits-bits c =
+    let n = c.args.bits in
     subst (λ (b : Bool). T (not b)) (sym (nan_bits_above binary32 n ∙ le-ltb 0x7f80_0000 (n % 0x8000_0000) (omega arith))) tt
 
-pack-depth-requires : tie.Need-pack-depth-requires
-pack-depth-requires c κs = search rules
+pack_depth-requires : tie.Need-pack_depth-requires
+pack_depth-requires c κs = search rules
 
-returns-2 : tie.Need-returns-2
-returns-2 c = search rules
+returns : tie.Need-returns
+returns c = search rules
 
-pub pack-depth-bits-spec : {M : Type 1} → statement M
-pack-depth-bits-spec =
-    tie.close (tie.spec returns float-from-bits-pack-depth pack-depth-requires returns-2)
+pub pack_depth_bits_spec : {M : Type 1} → statement M
+pack_depth_bits_spec =
+    tie.close (tie.spec returns-then-magnitude-gt2139095040 float_from_bits-bits pack_depth-requires returns)

@@ -6,31 +6,31 @@ use Rattle.words_pack.specs.Writer.{supported_of, color_supported}
 use Rattle.words_pack.proofs.supported.Statement.{statement}
 use Rattle.words_pack.proofs.supported.Tie as tie
 
-returns : tie.Need-returns
+returns-then-writer : tie.Need-returns-then-writer
 unfolding supported_of
-returns c = simp c.if1.true
+returns-then-writer c = simp c.if-writer.true
 
-returns-2 : tie.Need-returns-2
+returns-then-siz-eq2 : tie.Need-returns-then-siz-eq2
 unfolding supported_of color_supported
-returns-2 c = simp (c.before.if1.false, c.if2.true, or-false)
+returns-then-siz-eq2 c = simp (c.if-writer.false, c.if-siz-eq2.true, or-false)
 
-returns-3 : tie.Need-returns-3
+returns-then-fmt-lt2 : tie.Need-returns-then-fmt-lt2
 unfolding supported_of color_supported
-returns-3 c =
-    let s = c.before.before.before.before.args.writer.layout in
-    simp (c.before.before.before.if1.false, c.before.if3.true, lt-leb 2 s.fmt (omega arith))
+returns-then-fmt-lt2 c =
+    let s = c.args.writer.layout in
+    simp (c.if-writer.false, c.if-siz-eq1.true, lt-leb 2 s.fmt (omega arith))
 
-returns-4 : tie.Need-returns-4
+returns-then-siz-eq1 : tie.Need-returns-then-siz-eq1
 unfolding supported_of color_supported
-returns-4 c =
-    let s = c.before.before.before.before.args.writer.layout in
-    simp (c.before.before.before.if1.false, c.before.if3.true, le-leb 2 s.fmt (omega arith))
+returns-then-siz-eq1 c =
+    let s = c.args.writer.layout in
+    simp (c.if-writer.false, c.if-siz-eq1.true, le-leb 2 s.fmt (omega arith))
 
-returns-5 : tie.Need-returns-5
+returns : tie.Need-returns
 unfolding supported_of color_supported
-returns-5 c =
-    let s = c.before.before.before.args.writer.layout in
-    simp (c.before.before.if1.false, ne_eqb s.siz 2 c.before.if2.false, ne_eqb s.siz 1 c.if3.false)
+returns c =
+    let s = c.args.writer.layout in
+    simp (c.if-writer.false, ne_eqb s.siz 2 c.if-siz-eq2.false, ne_eqb s.siz 1 c.if-siz-eq1.false)
 
-pub supported-spec : {M : Type 1} → statement M
-supported-spec = tie.close (tie.spec returns returns-2 returns-3 returns-4 returns-5)
+pub supported_spec : {M : Type 1} → statement M
+supported_spec = tie.close (tie.spec returns-then-writer returns-then-siz-eq2 returns-then-fmt-lt2 returns-then-siz-eq1 returns)

@@ -5,29 +5,29 @@ use Rattle.words_pack.proofs.Squares.{by_magic, by_bayer, by_none}
 use Rattle.words_pack.proofs.threshold.Statement.{statement}
 use Rattle.words_pack.proofs.threshold.Tie as tie
 
-place-requires : tie.Need-place-requires
-place-requires c κs = search rules
+place-index-requires : tie.Need-place-index-requires
+place-index-requires c κs = search rules
 
-array-read-result : tie.Need-array-read-result
-array-read-result c = search rules
+bounds-index : tie.Need-bounds-index
+bounds-index c = search rules
 
-array-read-result-2 : tie.Need-array-read-result-2
-array-read-result-2 c = search rules
+bounds-index-in-1 : tie.Need-bounds-index-in-1
+bounds-index-in-1 c = search rules
 
-returns : tie.Need-returns
-returns c =
-    let a = c.before.before.args in
-    ap (λ (k : ℕ). get_or magic k 0) c.before.place.ensures ∙ by_magic a.x a.y c.match.keys1
+returns-in-0 : tie.Need-returns-in-0
+returns-in-0 c =
+    let a = c.args in
+    ap (λ (k : ℕ). get_or magic k 0) c.place-index.ensures ∙ by_magic a.x a.y c.in-0.is
 
-returns-2 : tie.Need-returns-2
-returns-2 c =
-    let a = c.before.before.args in
-    ap (λ (k : ℕ). get_or bayer k 0) c.before.place.ensures ∙ by_bayer a.x a.y c.match.keys2
+returns-in-1 : tie.Need-returns-in-1
+returns-in-1 c =
+    let a = c.args in
+    ap (λ (k : ℕ). get_or bayer k 0) c.place-index.ensures ∙ by_bayer a.x a.y c.in-1.is
 
-returns-3 : tie.Need-returns-3
-returns-3 c = by_none c.before.before.args.x c.before.before.args.y c.match.rest.0.1 c.match.rest.1
+returns-in_default : tie.Need-returns-in_default
+returns-in_default c = by_none c.args.x c.args.y c.in_default.in_default-own.rest.0.1 c.in_default.in_default-own.rest.1
 
-pub threshold-spec : {M : Type 1} → statement M
-threshold-spec =
+pub threshold_spec : {M : Type 1} → statement M
+threshold_spec =
     tie.close
-    (tie.spec place-requires array-read-result array-read-result-2 returns returns-2 returns-3)
+    (tie.spec place-index-requires bounds-index bounds-index-in-1 returns-in-0 returns-in-1 returns-in_default)

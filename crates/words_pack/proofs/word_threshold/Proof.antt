@@ -5,30 +5,30 @@ use Rattle.words_pack.proofs.Squares.{by_magic, by_bayer, by_none, magic_entry, 
 use Rattle.words_pack.proofs.word_threshold.Statement.{statement}
 use Rattle.words_pack.proofs.word_threshold.Tie as tie
 
-place-requires : tie.Need-place-requires
-place-requires c κs = search rules
+place-index-requires : tie.Need-place-index-requires
+place-index-requires c κs = search rules
 
 entry-requires : tie.Need-entry-requires
 entry-requires c κs = search rules
 
-entry-requires-2 : tie.Need-entry-requires-2
-entry-requires-2 c κs = search rules
+entry-requires-in-1 : tie.Need-entry-requires-in-1
+entry-requires-in-1 c κs = search rules
 
-returns : tie.Need-returns
-returns c =
+returns-in-0 : tie.Need-returns-in-0
+returns-in-0 c =
     let p = c.before.before in
-    let a = p.before.args in
-    c.entry.ensures ∙ magic_entry p.place.result (search rules) ∙ ap (λ (k : ℕ). get_or magic k 0) p.place.ensures ∙ by_magic a.x a.y c.before.match.keys1
+    let a = p.args in
+    c.entry.ensures ∙ magic_entry p.place-index.result (search rules) ∙ ap (λ (k : ℕ). get_or magic k 0) p.place-index.ensures ∙ by_magic a.x a.y c.in-0.is
 
-returns-2 : tie.Need-returns-2
-returns-2 c =
+returns-in-1 : tie.Need-returns-in-1
+returns-in-1 c =
     let p = c.before.before in
-    let a = p.before.args in
-    c.entry2.ensures ∙ bayer_entry p.place.result (search rules) ∙ ap (λ (k : ℕ). get_or bayer k 0) p.place.ensures ∙ by_bayer a.x a.y c.before.match.keys2
+    let a = p.args in
+    c.entry-in-1.ensures ∙ bayer_entry p.place-index.result (search rules) ∙ ap (λ (k : ℕ). get_or bayer k 0) p.place-index.ensures ∙ by_bayer a.x a.y c.in-1.is
 
-returns-3 : tie.Need-returns-3
-returns-3 c = by_none c.before.before.args.x c.before.before.args.y c.match.rest.0.1 c.match.rest.1
+returns-in_default : tie.Need-returns-in_default
+returns-in_default c = by_none c.args.x c.args.y c.in_default.in_default-own.rest.0.1 c.in_default.in_default-own.rest.1
 
-pub word-threshold-spec : {M : Type 1} → statement M
-word-threshold-spec =
-    tie.close (tie.spec place-requires entry-requires entry-requires-2 returns returns-2 returns-3)
+pub word_threshold_spec : {M : Type 1} → statement M
+word_threshold_spec =
+    tie.close (tie.spec place-index-requires entry-requires entry-requires-in-1 returns-in-0 returns-in-1 returns-in_default)
