@@ -8,7 +8,7 @@ use combiner::Combiner;
 use state::{RenderMode, Rgba};
 
 // P times A in each channel, and B, the memory's share.
-#[derive(Drop)]
+#[derive(Clone, Copy)]
 pub struct Layer {
     pub r: f32,
     pub g: f32,

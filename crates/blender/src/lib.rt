@@ -1,4 +1,6 @@
 // The blender of writeback.rs: how an emitted pixel meets the colour and the coverage in memory.
+#![tactic(auto)]
+
 ghost use Rattle.std.specs.Prelude.{◌≡◌, ◌≤◌};
 ghost use Rattle.blender.specs.Mux.{mux_of};
 ghost use Rattle.blender.specs.Coverage.{overflows, blends, clamp_of, destination_of};
@@ -13,14 +15,14 @@ use state::{RenderMode, Rgba};
 pub mod layer; // pixels whose blend is a sum with the memory's colour, or stored as they are where the samples overflow
 
 // A pixel's coverage in memory, 0 to 7 for 1 to 8 samples, or that it is not known.
-#[derive(Drop)]
+#[derive(Clone, Copy)]
 pub enum Coverage {
     Unknown,
     Known(u8),
 }
 
 // An emitted pixel: its combined colour, its shade alpha and its number of samples.
-#[derive(Drop)]
+#[derive(Clone, Copy)]
 pub struct Source {
     pub color: Rgba,
     pub shade_alpha: f32,
@@ -28,21 +30,21 @@ pub struct Source {
 }
 
 // A pixel's colour in memory, or that it is not known.
-#[derive(Drop)]
+#[derive(Clone, Copy)]
 pub enum Memory {
     Unknown,
     Known(Rgba),
 }
 
 // What is stored of a pixel: red, green, blue and alpha, or a fallback where `color_known` says no.
-#[derive(Drop)]
+#[derive(Clone, Copy)]
 pub enum Joined {
     Fallback,
     Stored(u8, u8, u8, u8),
 }
 
 // A colour as it is stored.
-#[derive(Drop)]
+#[derive(Clone, Copy)]
 pub struct Bytes {
     pub r: u8,
     pub g: u8,
@@ -51,7 +53,7 @@ pub struct Bytes {
 }
 
 // The blender's four selectors, each from 0 to 3.
-#[derive(Drop)]
+#[derive(Clone, Copy)]
 pub struct Mux {
     pub p: u32,
     pub a: u32,

@@ -16,26 +16,26 @@ use Rattle.blender.specs.Blend.{source_of, factor_a, factor_b, bytes_of, blend_o
 use Rattle.blender.proofs.blend.Statement.{statement}
 use Rattle.blender.proofs.blend.Tie as tie
 
-decode-mux-requires : tie.Need-decode-mux-requires
-decode-mux-requires c κs = search rules
+decode_mux-mux-requires : tie.Need-decode_mux-mux-requires
+decode_mux-mux-requires c κs = search rules
 
-input-requires : tie.Need-input-requires
-input-requires c κs = search rules
+input-p-requires : tie.Need-input-p-requires
+input-p-requires c κs = search rules
 
-input-requires-2 : tie.Need-input-requires-2
-input-requires-2 c κs = search rules
+input-m-requires : tie.Need-input-m-requires
+input-m-requires c κs = search rules
 
-factor-a-requires : tie.Need-factor-a-requires
-factor-a-requires c κs = search rules
+factor_a-a-requires : tie.Need-factor_a-a-requires
+factor_a-a-requires c κs = search rules
 
-factor-b-requires : tie.Need-factor-b-requires
-factor-b-requires c κs = search rules
+factor_b-b-requires : tie.Need-factor_b-b-requires
+factor_b-b-requires c κs = search rules
 
-stands-alone-requires : tie.Need-stands-alone-requires
-stands-alone-requires c κs = search rules
+stands_alone-stands-requires : tie.Need-stands_alone-stands-requires
+stands_alone-stands-requires c κs = search rules
 
-in-bytes-requires : tie.Need-in-bytes-requires
-in-bytes-requires c κs = search rules
+in_bytes-requires : tie.Need-in_bytes-requires
+in_bytes-requires c κs = search rules
 
 module _ (mode : RenderMode) (combiner : Combiner) (rgba memory : Rgba) (shade : Float) (n c : ℕ) where
   assembled :
@@ -62,10 +62,10 @@ returns c =
     let sm = fa.before in
     let sp = sm.before in
     let d = sp.before in
-    let s = d.before.args in
-    assembled s.mode s.combiner s.rgba s.memory s.shade-alpha s.count s.coverage
-    d.decode-mux.ensures sp.input.ensures sm.input2.ensures fa.factor-a.ensures fb.factor-b.ensures
-    stands.stands-alone.ensures c.in_bytes.ensures
+    let s = d.args in
+    assembled s.mode s.combiner s.rgba s.memory s.shade_alpha s.count s.coverage
+    d.decode_mux-mux.ensures sp.input-p.ensures sm.input-m.ensures fa.factor_a-a.ensures fb.factor_b-b.ensures
+    stands.stands_alone-stands.ensures c.in_bytes.ensures
 
-pub blend-spec : {M : Type 1} → statement M
-blend-spec = tie.close (tie.spec decode-mux-requires input-requires input-requires-2 factor-a-requires factor-b-requires stands-alone-requires in-bytes-requires returns)
+pub blend_spec : {M : Type 1} → statement M
+blend_spec = tie.close (tie.spec decode_mux-mux-requires input-p-requires input-m-requires factor_a-a-requires factor_b-b-requires stands_alone-stands-requires in_bytes-requires returns)

@@ -10,52 +10,52 @@ use Rattle.blender.specs.Joined.{or_zeros, joined}
 use Rattle.blender.proofs.blend_known.Statement.{statement}
 use Rattle.blender.proofs.blend_known.Tie as tie
 
-is-known-requires : tie.Need-is-known-requires
-is-known-requires c κs = search rules
+is_known-known-requires : tie.Need-is_known-known-requires
+is_known-known-requires c κs = search rules
 
-color-known-requires : tie.Need-color-known-requires
-color-known-requires c κs = search rules
+color_known-requires : tie.Need-color_known-requires
+color_known-requires c κs = search rules
+
+returns-then-not-color_known : tie.Need-returns-then-not-color_known
+unfolding joined
+returns-then-not-color_known c =
+    let a = c.args in
+    let s = a.source in
+    let bytes = blend_of a.mode a.combiner s.color (or_zeros a.memory) s.shade_alpha s.count (or_zero a.coverage) in
+    let k = c.is_known-known.ensures in
+    let no = sym (c.color_known.ensures ∙ (λ i. color_known a.mode s.color.a s.count a.coverage (k i))) ∙ c.if-not-color_known.true in
+    λ i. cond (sym no i) (Stored bytes.r bytes.g bytes.b bytes.a) Fallback
+
+color_or_zeros-under-requires : tie.Need-color_or_zeros-under-requires
+color_or_zeros-under-requires c κs = search rules
+
+coverage_or_zero-samples-requires : tie.Need-coverage_or_zero-samples-requires
+coverage_or_zero-samples-requires c κs = search rules
+
+blend-bytes-requires : tie.Need-blend-bytes-requires
+blend-bytes-requires c κs = search rules
 
 returns : tie.Need-returns
 unfolding joined
 returns c =
-    let a = c.before.before.before.before.args in
-    let s = a.source in
-    let bytes = blend_of a.mode a.combiner s.color (or_zeros a.memory) s.shade_alpha s.count (or_zero a.coverage) in
-    let k = c.before.before.is_Known.ensures in
-    let no = sym (c.before.color-known.ensures ∙ (λ i. color_known a.mode s.color.a s.count a.coverage (k i))) ∙ not-true _ c.if1.true in
-    λ i. cond (sym no i) (Stored bytes.r bytes.g bytes.b bytes.a) Fallback
-
-color-or-zeros-requires : tie.Need-color-or-zeros-requires
-color-or-zeros-requires c κs = search rules
-
-coverage-or-zero-requires : tie.Need-coverage-or-zero-requires
-coverage-or-zero-requires c κs = search rules
-
-blend-requires : tie.Need-blend-requires
-blend-requires c κs = search rules
-
-returns-2 : tie.Need-returns-2
-unfolding joined
-returns-2 c =
     let e = c.before.before.before in
-    let a = e.before.before.before.before.args in
+    let a = e.args in
     let s = a.source in
-    let k = e.before.before.is_Known.ensures in
-    let yes = sym (e.before.color-known.ensures ∙ (λ i. color_known a.mode s.color.a s.count a.coverage (k i))) ∙ not-false _ e.if1.false in
-    let under = c.before.before.color-or-zeros.ensures in
-    let samples = c.before.coverage-or-zero.ensures in
-    let b = c.blend.ensures ∙ (λ i. blend_of a.mode a.combiner s.color (under i) s.shade_alpha s.count (samples i)) in
+    let k = e.is_known-known.ensures in
+    let yes = sym (e.color_known.ensures ∙ (λ i. color_known a.mode s.color.a s.count a.coverage (k i))) ∙ e.if-not-color_known.false in
+    let under = c.color_or_zeros-under.ensures in
+    let samples = c.coverage_or_zero-samples.ensures in
+    let b = c.blend-bytes.ensures ∙ (λ i. blend_of a.mode a.combiner s.color (under i) s.shade_alpha s.count (samples i)) in
     λ i. cond (sym yes i) (Stored (b i).r (b i).g (b i).b (b i).a) Fallback
 
-pub blend-known-spec : {M : Type 1} → statement M
-blend-known-spec =
+pub blend_known_spec : {M : Type 1} → statement M
+blend_known_spec =
     tie.close
     (tie.spec
-    is-known-requires
-    color-known-requires
-    returns
-    color-or-zeros-requires
-    coverage-or-zero-requires
-    blend-requires
-    returns-2)
+    is_known-known-requires
+    color_known-requires
+    returns-then-not-color_known
+    color_or_zeros-under-requires
+    coverage_or_zero-samples-requires
+    blend-bytes-requires
+    returns)

@@ -6,18 +6,18 @@ use Rattle.blender.specs.Joined.{or_zeros}
 use Rattle.blender.proofs.color_or_zeros.Statement.{statement}
 use Rattle.blender.proofs.color_or_zeros.Tie as tie
 
-enum_told : tie.Need-enum-told
-enum_told c = search rules
+enum_told-1 : tie.Need-enum_told-1
+enum_told-1 c = search rules
 
-enum-known-memory : tie.Need-enum-known-memory
-enum-known-memory c = search rules
+enum_known-memory : tie.Need-enum_known-memory
+enum_known-memory c = search rules
 
-returns : tie.Need-returns
+returns-in-Unknown : tie.Need-returns-in-Unknown
 unfolding of_bits
-returns c = sym (ap or_zeros c.enum_told.given.1)
+returns-in-Unknown c = sym (ap or_zeros c.in-Unknown.is)
 
-returns-2 : tie.Need-returns-2
-returns-2 c = search rules
+returns-in-Known : tie.Need-returns-in-Known
+returns-in-Known c = search rules
 
-pub color-or-zeros-spec : {M : Type 1} → statement M
-color-or-zeros-spec = tie.close (tie.spec enum_told enum-known-memory returns returns-2)
+pub color_or_zeros_spec : {M : Type 1} → statement M
+color_or_zeros_spec = tie.close (tie.spec enum_told-1 enum_known-memory returns-in-Unknown returns-in-Known)

@@ -20,7 +20,7 @@ returns : tie.Need-returns
 unfolding mux_of
 returns c =
     let d = c.before.before.before in
-    λ i. record { p = d.bits.ensures i; a = c.before.before.bits2.ensures i; m = c.before.bits3.ensures i; b = c.bits4.ensures i }
+    λ i. record { p = d.bits.ensures i; a = c.bits-2.ensures i; m = c.bits-3.ensures i; b = c.bits-4.ensures i }
 
-pub decode-mux-spec : {M : Type 1} → statement M
-decode-mux-spec = tie.close (tie.spec bits-requires bits-requires-2 bits-requires-3 bits-requires-4 returns)
+pub decode_mux_spec : {M : Type 1} → statement M
+decode_mux_spec = tie.close (tie.spec bits-requires bits-requires-2 bits-requires-3 bits-requires-4 returns)

@@ -10,11 +10,11 @@ use Rattle.blender.proofs.Range.{Kept, kept}
 use Rattle.blender.proofs.destination.Statement.{statement}
 use Rattle.blender.proofs.destination.Tie as tie
 
-blending-requires : tie.Need-blending-requires
-blending-requires c κs = search rules
+blending-blend-requires : tie.Need-blending-blend-requires
+blending-blend-requires c κs = search rules
 
-add-sum : tie.Need-overflow-add-sum
-add-sum c = search rules
+overflow_add-sum : tie.Need-overflow_add-sum
+overflow_add-sum c = search rules
 
 clamp-requires : tie.Need-clamp-requires
 clamp-requires c κs = search rules
@@ -29,26 +29,26 @@ arm : (s : tie.Start) (r : ℕ) → r ≡ at s s.args.mode.cvg_dst → Kept s.ar
 unfolding at destination_of
 arm s r e = kept s.args.mode s.args.count s.args.memory r s.requires e
 
-returns : tie.Need-returns
+returns-in-0 : tie.Need-returns-in-0
 unfolding at
-returns c =
+returns-in-0 c =
     let s = c.before.before.before in
     arm s c.clamp.result
     (c.clamp.ensures
-    ∙ (λ i. clamp_of (c.before.before.blending.ensures i) s.args.count s.args.memory)
-    ∙ ap (at s) (sym c.before.match.keys1))
+    ∙ (λ i. clamp_of (c.blending-blend.ensures i) s.args.count s.args.memory)
+    ∙ ap (at s) (sym c.in-0.is))
 
-returns-2 : tie.Need-returns-2
+returns-in-1 : tie.Need-returns-in-1
 unfolding at
-returns-2 c = let s = c.before.before in arm s _ (ap (at s) (sym c.match.keys2))
+returns-in-1 c = let s = c.before.before in arm s _ (ap (at s) (sym c.in-1.is))
 
-returns-3 : tie.Need-returns-3
+returns-in-2 : tie.Need-returns-in-2
 unfolding at
-returns-3 c = let s = c.before.before in arm s 7 (ap (at s) (sym c.match.keys3))
+returns-in-2 c = let s = c.before.before in arm s 7 (ap (at s) (sym c.in-2.is))
 
-returns-4 : tie.Need-returns-4
+returns-in_default : tie.Need-returns-in_default
 unfolding at
-returns-4 c = let s = c.before.before in arm s s.args.memory (pick_rest _ _ _ _ _ c.match.rest.0.0.1 c.match.rest.0.1 c.match.rest.1)
+returns-in_default c = let s = c.before.before in arm s s.args.memory (pick_rest _ _ _ _ _ c.in_default.in_default-own.rest.0.0.1 c.in_default.in_default-own.rest.0.1 c.in_default.in_default-own.rest.1)
 
-pub destination-spec : {M : Type 1} → statement M
-destination-spec = tie.close (tie.spec blending-requires add-sum clamp-requires returns returns-2 returns-3 returns-4)
+pub destination_spec : {M : Type 1} → statement M
+destination_spec = tie.close (tie.spec blending-blend-requires overflow_add-sum clamp-requires returns-in-0 returns-in-1 returns-in-2 returns-in_default)

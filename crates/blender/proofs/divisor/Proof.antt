@@ -3,13 +3,13 @@ use lib.Ieee.{of_bits}
 use Rattle.blender.proofs.divisor.Statement.{statement}
 use Rattle.blender.proofs.divisor.Tie as tie
 
-returns : tie.Need-returns
+returns-then-sum-least : tie.Need-returns-then-sum-least
 unfolding of_bits
-returns c = simp c.if1.true
+returns-then-sum-least c = simp c.if-sum-least.true
 
-returns-2 : tie.Need-returns-2
+returns-else-sum-least : tie.Need-returns-else-sum-least
 unfolding of_bits
-returns-2 c = simp c.if1.false
+returns-else-sum-least c = simp c.if-sum-least.false
 
-pub divisor-spec : {M : Type 1} → statement M
-divisor-spec = tie.close (tie.spec returns returns-2)
+pub divisor_spec : {M : Type 1} → statement M
+divisor_spec = tie.close (tie.spec returns-then-sum-least returns-else-sum-least)

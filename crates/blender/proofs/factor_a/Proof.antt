@@ -10,21 +10,21 @@ use Rattle.blender.proofs.factor_a.Tie as tie
 at : tie.Start → ℕ → Float
 at s k = let a = s.args in factor_a k a.alpha a.fog a.shade
 
-returns : tie.Need-returns
+returns-in-0 : tie.Need-returns-in-0
 unfolding at
-returns c = ap (at c.before) (sym c.match.keys1)
+returns-in-0 c = ap (at c.before) (sym c.in-0.is)
 
-returns-2 : tie.Need-returns-2
+returns-in-1 : tie.Need-returns-in-1
 unfolding at
-returns-2 c = ap (at c.before) (sym c.match.keys2)
+returns-in-1 c = ap (at c.before) (sym c.in-1.is)
 
-returns-3 : tie.Need-returns-3
+returns-in-2 : tie.Need-returns-in-2
 unfolding at
-returns-3 c = ap (at c.before) (sym c.match.keys3)
+returns-in-2 c = ap (at c.before) (sym c.in-2.is)
 
-returns-4 : tie.Need-returns-4
+returns-in_default : tie.Need-returns-in_default
 unfolding of_bits
-returns-4 c = let m = c.match.rest in pick_rest _ _ _ _ _ m.0.0.1 m.0.1 m.1
+returns-in_default c = let m = c.in_default.in_default-own.rest in pick_rest _ _ _ _ _ m.0.0.1 m.0.1 m.1
 
-pub factor-a-spec : {M : Type 1} → statement M
-factor-a-spec = tie.close (tie.spec returns returns-2 returns-3 returns-4)
+pub factor_a_spec : {M : Type 1} → statement M
+factor_a_spec = tie.close (tie.spec returns-in-0 returns-in-1 returns-in-2 returns-in_default)

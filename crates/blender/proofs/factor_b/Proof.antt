@@ -8,27 +8,27 @@ use Rattle.blender.proofs.Picked.{pick_rest}
 use Rattle.blender.proofs.factor_b.Statement.{statement}
 use Rattle.blender.proofs.factor_b.Tie as tie
 
-int-to-float-result : tie.Need-int-to-float-result
-int-to-float-result c = search rules
+int_to_float-result : tie.Need-int_to_float-result
+int_to_float-result c = search rules
 
 at : tie.Start → ℕ → Float
 at s k = let a = s.args in factor_b k a.a a.coverage
 
-returns : tie.Need-returns
+returns-in-0 : tie.Need-returns-in-0
 unfolding at factor_b of_bits
-returns c = ap (at c.before) (sym c.match.keys1)
+returns-in-0 c = ap (at c.before) (sym c.in-0.is)
 
-returns-2 : tie.Need-returns-2
+returns-in-1 : tie.Need-returns-in-1
 unfolding at factor_b of_bits
-returns-2 c = ap (at c.before.before) (sym c.before.match.keys2)
+returns-in-1 c = ap (at c.before.before) (sym c.in-1.is)
 
-returns-3 : tie.Need-returns-3
+returns-in-2 : tie.Need-returns-in-2
 unfolding at factor_b of_bits
-returns-3 c = ap (at c.before) (sym c.match.keys3)
+returns-in-2 c = ap (at c.before) (sym c.in-2.is)
 
-returns-4 : tie.Need-returns-4
+returns-in_default : tie.Need-returns-in_default
 unfolding factor_b of_bits
-returns-4 c = let m = c.match.rest in pick_rest _ _ _ _ _ m.0.0.1 m.0.1 m.1
+returns-in_default c = let m = c.in_default.in_default-own.rest in pick_rest _ _ _ _ _ m.0.0.1 m.0.1 m.1
 
-pub factor-b-spec : {M : Type 1} → statement M
-factor-b-spec = tie.close (tie.spec int-to-float-result returns returns-2 returns-3 returns-4)
+pub factor_b_spec : {M : Type 1} → statement M
+factor_b_spec = tie.close (tie.spec int_to_float-result returns-in-0 returns-in-1 returns-in-2 returns-in_default)

@@ -14,23 +14,23 @@ use Rattle.blender.proofs.in_bytes.Tie as tie
 mixed-requires : tie.Need-mixed-requires
 mixed-requires c κs = search rules
 
-byte-of-requires : tie.Need-byte-of-requires
-byte-of-requires c κs = search rules
+byte_of-requires : tie.Need-byte_of-requires
+byte_of-requires c κs = search rules
 
 mixed-requires-2 : tie.Need-mixed-requires-2
 mixed-requires-2 c κs = search rules
 
-byte-of-requires-2 : tie.Need-byte-of-requires-2
-byte-of-requires-2 c κs = search rules
+byte_of-requires-2 : tie.Need-byte_of-requires-2
+byte_of-requires-2 c κs = search rules
 
 mixed-requires-3 : tie.Need-mixed-requires-3
 mixed-requires-3 c κs = search rules
 
-byte-of-requires-3 : tie.Need-byte-of-requires-3
-byte-of-requires-3 c κs = search rules
+byte_of-requires-3 : tie.Need-byte_of-requires-3
+byte_of-requires-3 c κs = search rules
 
-byte-of-requires-4 : tie.Need-byte-of-requires-4
-byte-of-requires-4 c κs = search rules
+byte_of-requires-4 : tie.Need-byte_of-requires-4
+byte_of-requires-4 c κs = search rules
 
 byte : {x y : Float} {r : ℕ} → x ≡ y → r ≡ byte_of x → r ≡ byte_of y
 byte e h = h ∙ ap byte_of e
@@ -51,12 +51,12 @@ returns c =
     let z = c.before in
     let y = z.before.before in
     let x = y.before.before in
-    let s = x.before.before.args in
+    let s = x.args in
     assembled s.stands s.forced s.p s.a s.m s.b s.alpha
-    x.before.mixed.ensures x.byte-of.ensures
-    y.before.mixed2.ensures y.byte-of2.ensures
-    z.before.mixed3.ensures z.byte-of3.ensures
-    c.byte-of4.ensures
+    x.mixed.ensures x.byte_of.ensures
+    y.mixed-2.ensures y.byte_of-2.ensures
+    z.mixed-3.ensures z.byte_of-3.ensures
+    c.byte_of-4.ensures
 
-pub in-bytes-spec : {M : Type 1} → statement M
-in-bytes-spec = tie.close (tie.spec mixed-requires byte-of-requires mixed-requires-2 byte-of-requires-2 mixed-requires-3 byte-of-requires-3 byte-of-requires-4 returns)
+pub in_bytes_spec : {M : Type 1} → statement M
+in_bytes_spec = tie.close (tie.spec mixed-requires byte_of-requires mixed-requires-2 byte_of-requires-2 mixed-requires-3 byte_of-requires-3 byte_of-requires-4 returns)

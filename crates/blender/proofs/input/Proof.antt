@@ -14,32 +14,32 @@ at s k = let a = s.args in source_of k a.combiner a.rgba a.memory
 copy-requires : tie.Need-copy-requires
 copy-requires c κs = search rules
 
-returns : tie.Need-returns
+returns-in-0 : tie.Need-returns-in-0
 unfolding at
-returns c = c.copy.ensures ∙ ap (at c.before.before) (sym c.before.match.keys1)
+returns-in-0 c = c.copy.ensures ∙ ap (at c.before.before) (sym c.in-0.is)
 
-copy-requires-2 : tie.Need-copy-requires-2
-copy-requires-2 c κs = search rules
+copy-requires-in-1 : tie.Need-copy-requires-in-1
+copy-requires-in-1 c κs = search rules
 
-returns-2 : tie.Need-returns-2
+returns-in-1 : tie.Need-returns-in-1
 unfolding at
-returns-2 c = c.copy2.ensures ∙ ap (at c.before.before) (sym c.before.match.keys2)
+returns-in-1 c = c.copy-in-1.ensures ∙ ap (at c.before.before) (sym c.in-1.is)
 
-copy-requires-3 : tie.Need-copy-requires-3
-copy-requires-3 c κs = search rules
+copy-requires-in-2 : tie.Need-copy-requires-in-2
+copy-requires-in-2 c κs = search rules
 
-returns-3 : tie.Need-returns-3
+returns-in-2 : tie.Need-returns-in-2
 unfolding at
-returns-3 c = c.copy3.ensures ∙ ap (at c.before.before) (sym c.before.match.keys3)
+returns-in-2 c = c.copy-in-2.ensures ∙ ap (at c.before.before.before) (sym c.in-2.is)
 
-copy-requires-4 : tie.Need-copy-requires-4
-copy-requires-4 c κs = search rules
+copy-requires-in_default : tie.Need-copy-requires-in_default
+copy-requires-in_default c κs = search rules
 
-returns-4 : tie.Need-returns-4
-returns-4 c =
-    let a = c.before.before.args in
-    let m = c.before.match.rest in
-    c.copy4.ensures ∙ pick_rest a.selector a.rgba a.memory a.combiner.blend a.combiner.fog m.0.0.1 m.0.1 m.1
+returns-in_default : tie.Need-returns-in_default
+returns-in_default c =
+    let a = c.args in
+    let m = c.in_default.in_default-own.rest in
+    c.copy-in_default.ensures ∙ pick_rest a.selector a.rgba a.memory a.combiner.blend a.combiner.fog m.0.0.1 m.0.1 m.1
 
-pub input-spec : {M : Type 1} → statement M
-input-spec = tie.close (tie.spec copy-requires copy-requires-2 copy-requires-3 copy-requires-4 returns returns-2 returns-3 returns-4)
+pub input_spec : {M : Type 1} → statement M
+input_spec = tie.close (tie.spec copy-requires copy-requires-in-1 copy-requires-in-2 copy-requires-in_default returns-in-0 returns-in-1 returns-in-2 returns-in_default)

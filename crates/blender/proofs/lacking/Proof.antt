@@ -5,11 +5,11 @@ use borrow.Author.Tests.{eq-eqb, ne_eqb}
 use Rattle.blender.proofs.lacking.Statement.{statement}
 use Rattle.blender.proofs.lacking.Tie as tie
 
+returns-then-selector-eq1 : tie.Need-returns-then-selector-eq1
+returns-then-selector-eq1 c = let s = c.args in λ i. sym (eq-eqb s.selector 1 c.if-selector-eq1.true) i && not s.memory_rgb
+
 returns : tie.Need-returns
-returns c = let s = c.before.args in λ i. sym (eq-eqb s.selector 1 c.if1.true) i && not s.memory-rgb
+returns c = let s = c.args in λ i. sym (ne_eqb s.selector 1 c.if-selector-eq1.false) i && not s.memory_rgb
 
-returns-2 : tie.Need-returns-2
-returns-2 c = let s = c.before.args in λ i. sym (ne_eqb s.selector 1 c.if1.false) i && not s.memory-rgb
-
-pub lacking-spec : {M : Type 1} → statement M
-lacking-spec = tie.close (tie.spec returns returns-2)
+pub lacking_spec : {M : Type 1} → statement M
+lacking_spec = tie.close (tie.spec returns-then-selector-eq1 returns)

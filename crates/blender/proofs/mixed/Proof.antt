@@ -14,22 +14,22 @@ sum s = let x = s.args in add binary32 (mul binary32 x.p x.a) (mul binary32 x.m 
 abbrev over : tie.Start → Float
 over s = divisor_of (add binary32 s.args.a s.args.b)
 
-returns : tie.Need-returns
+returns-then-stands : tie.Need-returns-then-stands
 unfolding mixed_of
-returns c = let s = c.before in λ i. cond (sym c.if1.true i) s.args.p (cond s.args.forced (sum s) (div binary32 (sum s) (over s)))
+returns-then-stands c = let s = c.before in λ i. cond (sym c.if-stands.true i) s.args.p (cond s.args.forced (sum s) (div binary32 (sum s) (over s)))
 
-returns-2 : tie.Need-returns-2
+returns-then-forced : tie.Need-returns-then-forced
 unfolding mixed_of
-returns-2 c = let s = c.before.before in λ i. cond (sym c.before.if1.false i) s.args.p (cond (sym c.if2.true i) (sum s) (div binary32 (sum s) (over s)))
+returns-then-forced c = let s = c.before.before in λ i. cond (sym c.if-stands.false i) s.args.p (cond (sym c.if-forced.true i) (sum s) (div binary32 (sum s) (over s)))
 
 divisor-requires : tie.Need-divisor-requires
 divisor-requires c κs = search rules
 
-returns-3 : tie.Need-returns-3
+returns : tie.Need-returns
 unfolding mixed_of
-returns-3 c =
+returns c =
     let s = c.before.before.before in
-    λ i. cond (sym c.before.before.if1.false i) s.args.p (cond (sym c.before.if2.false i) (sum s) (div binary32 (sum s) (c.divisor.ensures i)))
+    λ i. cond (sym c.if-stands.false i) s.args.p (cond (sym c.if-forced.false i) (sum s) (div binary32 (sum s) (c.divisor.ensures i)))
 
-pub mixed-spec : {M : Type 1} → statement M
-mixed-spec = tie.close (tie.spec returns returns-2 divisor-requires returns-3)
+pub mixed_spec : {M : Type 1} → statement M
+mixed_spec = tie.close (tie.spec returns-then-stands returns-then-forced divisor-requires returns)

@@ -5,23 +5,23 @@ use Rattle.blender.specs.Coverage.{overflows}
 use Rattle.blender.proofs.overflowing.Statement.{statement}
 use Rattle.blender.proofs.overflowing.Tie as tie
 
-enum_told : tie.Need-enum-told
-enum_told c = search rules
+enum_told-1 : tie.Need-enum_told-1
+enum_told-1 c = search rules
 
-enum-known-coverage : tie.Need-enum-known-coverage
-enum-known-coverage c = search rules
+enum_known-coverage : tie.Need-enum_known-coverage
+enum_known-coverage c = search rules
 
-cast-sum : tie.Need-overflow-cast-sum
-cast-sum c = search rules
+overflow_cast-sum-in-Known : tie.Need-overflow_cast-sum-in-Known
+overflow_cast-sum-in-Known c = search rules
 
-add-sum : tie.Need-overflow-add-sum
-add-sum c = search rules
+overflow_add-sum : tie.Need-overflow_add-sum
+overflow_add-sum c = search rules
 
-returns : tie.Need-returns
-returns c = search rules
+returns-in-Unknown : tie.Need-returns-in-Unknown
+returns-in-Unknown c = search rules
 
-returns-2 : tie.Need-returns-2
-returns-2 c = sym (ap (overflows c.before.before.before.args.count) c.before.coverage.given.1)
+returns-in-Known : tie.Need-returns-in-Known
+returns-in-Known c = sym (ap (overflows c.args.count) c.in-Known.is)
 
-pub overflowing-spec : {M : Type 1} → statement M
-overflowing-spec = tie.close (tie.spec enum_told enum-known-coverage cast-sum add-sum returns returns-2)
+pub overflowing_spec : {M : Type 1} → statement M
+overflowing_spec = tie.close (tie.spec enum_told-1 enum_known-coverage overflow_cast-sum-in-Known overflow_add-sum returns-in-Unknown returns-in-Known)

@@ -6,8 +6,8 @@ use Rattle.blender.specs.Layer.{own_of}
 use Rattle.blender.proofs.own_color.Statement.{statement}
 use Rattle.blender.proofs.own_color.Tie as tie
 
-decode-mux-requires : tie.Need-decode-mux-requires
-decode-mux-requires c κs = search rules
+decode_mux-mux-requires : tie.Need-decode_mux-mux-requires
+decode_mux-mux-requires c κs = search rules
 
 input-requires : tie.Need-input-requires
 input-requires c κs = search rules
@@ -16,8 +16,8 @@ returns : tie.Need-returns
 unfolding own_of
 returns c =
     let d = c.before in
-    let a = d.before.args in
-    c.input.ensures ∙ (λ i. source_of (d.decode-mux.ensures i).p a.combiner a.rgba a.rgba)
+    let a = d.args in
+    c.input.ensures ∙ (λ i. source_of (d.decode_mux-mux.ensures i).p a.combiner a.rgba a.rgba)
 
-pub own-color-spec : {M : Type 1} → statement M
-own-color-spec = tie.close (tie.spec decode-mux-requires input-requires returns)
+pub own_color_spec : {M : Type 1} → statement M
+own_color_spec = tie.close (tie.spec decode_mux-mux-requires input-requires returns)

@@ -12,13 +12,13 @@ blending-requires c κs = search rules
 rejects-requires : tie.Need-rejects-requires
 rejects-requires c κs = search rules
 
+returns-then-blending : tie.Need-returns-then-blending
+unfolding alone
+returns-then-blending c = λ i. not ((sym c.if-blending.true ∙ c.blending.ensures) i) || c.rejects.ensures i
+
 returns : tie.Need-returns
 unfolding alone
-returns c = λ i. not ((sym c.before.if1.true ∙ c.before.before.blending.ensures) i) || c.rejects.ensures i
+returns c = let s = c.args in λ i. not ((sym c.if-blending.false ∙ c.blending.ensures) i) || reject s.mode s.alpha
 
-returns-2 : tie.Need-returns-2
-unfolding alone
-returns-2 c = let s = c.before.before.args in λ i. not ((sym c.if1.false ∙ c.before.blending.ensures) i) || reject s.mode s.alpha
-
-pub stands-alone-spec : {M : Type 1} → statement M
-stands-alone-spec = tie.close (tie.spec blending-requires rejects-requires returns returns-2)
+pub stands_alone_spec : {M : Type 1} → statement M
+stands_alone_spec = tie.close (tie.spec blending-requires rejects-requires returns-then-blending returns)

@@ -9,17 +9,17 @@ use borrow.Author.Rules.{rules}
 use Rattle.blender.proofs.layer.layer_of.Statement.{statement}
 use Rattle.blender.proofs.layer.layer_of.Tie as tie
 
-decode-mux-requires : tie.Need-decode-mux-requires
-decode-mux-requires c κs = search rules
+decode_mux-mux-requires : tie.Need-decode_mux-mux-requires
+decode_mux-mux-requires c κs = search rules
 
-own-color-requires : tie.Need-own-color-requires
-own-color-requires c κs = search rules
+own_color-p-requires : tie.Need-own_color-p-requires
+own_color-p-requires c κs = search rules
 
-factor-a-requires : tie.Need-factor-a-requires
-factor-a-requires c κs = search rules
+factor_a-a-requires : tie.Need-factor_a-a-requires
+factor_a-a-requires c κs = search rules
 
-factor-b-requires : tie.Need-factor-b-requires
-factor-b-requires c κs = search rules
+factor_b-share-requires : tie.Need-factor_b-share-requires
+factor_b-share-requires c κs = search rules
 
 returns : tie.Need-returns
 unfolding layer_of of_bits
@@ -28,16 +28,16 @@ returns c =
     let a = b.before in
     let p = a.before in
     let d = p.before in
-    let s = d.before.args in
-    let x = d.decode-mux.ensures in
-    let ea : a.factor-a.result ≡ factor_a (mux_of s.mode.blender_mux).a s.rgba.a s.combiner.fog.a f0 =
-    a.factor-a.ensures ∙ (λ i. factor_a (x i).a s.rgba.a s.combiner.fog.a f0) in
-    let eb = b.factor-b.ensures ∙ (λ i. factor_b (x i).b (ea i) 0) in
-    let ep = p.own-color.ensures in
+    let s = d.args in
+    let x = d.decode_mux-mux.ensures in
+    let ea : a.factor_a-a.result ≡ factor_a (mux_of s.mode.blender_mux).a s.rgba.a s.combiner.fog.a f0 =
+    a.factor_a-a.ensures ∙ (λ i. factor_a (x i).a s.rgba.a s.combiner.fog.a f0) in
+    let eb = b.factor_b-share.ensures ∙ (λ i. factor_b (x i).b (ea i) 0) in
+    let ep = p.own_color-p.ensures in
     λ i.
     record { r = mul binary32 (ep i).r (ea i); g = mul binary32 (ep i).g (ea i); b = mul binary32 (ep i).b (ea i); share = eb i }
 
-pub layer-of-spec : {M : Type 1} → statement M
-layer-of-spec =
+pub layer_of_spec : {M : Type 1} → statement M
+layer_of_spec =
     tie.close
-    (tie.spec decode-mux-requires own-color-requires factor-a-requires factor-b-requires returns)
+    (tie.spec decode_mux-mux-requires own_color-p-requires factor_a-a-requires factor_b-share-requires returns)
