@@ -35,6 +35,7 @@ less_of true true c d p q = subst (λ (k : ℕ). Less (Known c) (Known k)) (sym 
 
 of_less : (a b : Bool) (c d : ℕ) → Less (cond a (Known c) Unknown) (cond b (Known d) Unknown) → a ≡ true → (b ≡ true) × (d ≡ c)
 of_less false b c d l t = never t
+of_less true false c d l t = elim l [ ]
 of_less true true c d Less.same t = (refl, refl)
 
 less_self : (c : Coverage) → Less c c

@@ -19,7 +19,7 @@ pub const FULL_COVERAGE: u8 = 7;
 const ALL: u8 = 8;
 
 // What full pixels of a colour need. As single fields and no enum: a loop over pixels asks them once.
-#[derive(Drop)]
+#[derive(Clone, Copy)]
 pub struct Full {
     pub layered: bool, // the colour is a layer over the memory's
     pub own: Colors, // its bytes if not

@@ -1,5 +1,7 @@
 // Rules F1 to F5 (docs/RULES.md) on one emitted pixel: the five bytes of a pixel by value, before and after. A byte is read only through what its mark
 // allows; an unmarked one is only ever kept.
+#![tactic(auto)]
+
 ghost use Rattle.std.specs.Prelude.{◌≡◌, false, cond, ◌≤◌};
 ghost use Rattle.blender.specs.Blend.{or_zero};
 ghost use Rattle.blender.specs.Joined.{is_known, or_zeros};
@@ -16,7 +18,7 @@ use state::{RenderMode, Rgba};
 pub mod full; // pixels with all eight samples
 
 // A pixel of the frame.
-#[derive(Drop)]
+#[derive(Clone, Copy)]
 pub struct Pixel {
     pub red: u8,
     pub green: u8,
@@ -26,7 +28,7 @@ pub struct Pixel {
 }
 
 // A pixel's colour bytes.
-#[derive(Drop)]
+#[derive(Clone, Copy)]
 pub struct Colors {
     pub red: u8,
     pub green: u8,
@@ -34,7 +36,7 @@ pub struct Colors {
 }
 
 // What is known of a pixel's colour ahead of the memory: the bytes of an opaque one, a layer over the memory's colour, or nothing, so that it is blended.
-#[derive(Drop)]
+#[derive(Clone, Copy)]
 pub enum Coloring {
     Opaque(Colors),
     Layered(Layer),
@@ -42,7 +44,7 @@ pub enum Coloring {
 }
 
 // What F1 to F4 say: whether the colour is then known, and the colour bytes then.
-#[derive(Drop)]
+#[derive(Clone, Copy)]
 pub struct Colored {
     pub known: bool,
     pub colors: Colors,

@@ -7,23 +7,23 @@ use borrow.Author.Rules.{rules}
 use Rattle.frame_pixel.proofs.assemble.Statement.{statement}
 use Rattle.frame_pixel.proofs.assemble.Tie as tie
 
-kept-or-known-requires : tie.Need-kept-or-known-requires
-kept-or-known-requires c κs = search rules
+kept_or_known-requires : tie.Need-kept_or_known-requires
+kept_or_known-requires c κs = search rules
 
-is-unknown-requires : tie.Need-is-unknown-requires
-is-unknown-requires c κs = search rules
+is_unknown-requires : tie.Need-is_unknown-requires
+is_unknown-requires c κs = search rules
 
-mark-of-requires : tie.Need-mark-of-requires
-mark-of-requires c κs = search rules
+mark_of-requires : tie.Need-mark_of-requires
+mark_of-requires c κs = search rules
 
 returns : tie.Need-returns
 unfolding assembled
 returns c =
-    let a = c.before.before.before.before.args in
-    let byte = c.before.before.kept-or-known.ensures in
-    let mark = c.mark_of.ensures ∙ (λ i. mark_of a.color.known (not (c.before.is-unknown.ensures i))) in
+    let a = c.args in
+    let byte = c.kept_or_known.ensures in
+    let mark = c.mark_of.ensures ∙ (λ i. mark_of a.color.known (not (c.is_unknown.ensures i))) in
     λ i. record { red = a.color.colors.red; green = a.color.colors.green; blue = a.color.colors.blue; coverage = byte i; mark = mark i }
 
-pub assemble-spec : {M : Type 1} → statement M
-assemble-spec =
-    tie.close (tie.spec kept-or-known-requires is-unknown-requires mark-of-requires returns)
+pub assemble_spec : {M : Type 1} → statement M
+assemble_spec =
+    tie.close (tie.spec kept_or_known-requires is_unknown-requires mark_of-requires returns)

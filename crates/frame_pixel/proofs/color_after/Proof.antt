@@ -12,38 +12,38 @@ use borrow.Author.Rules.{rules}
 use Rattle.frame_pixel.proofs.color_after.Statement.{statement}
 use Rattle.frame_pixel.proofs.color_after.Tie as tie
 
-enum-known-coloring : tie.Need-enum-known-coloring
-enum-known-coloring c = search rules
+enum_known-coloring : tie.Need-enum_known-coloring
+enum_known-coloring c = search rules
 
-enum-known-coloring-2 : tie.Need-enum-known-coloring-2
-enum-known-coloring-2 c = search rules
+enum_known-coloring-in-Layered-1 : tie.Need-enum_known-coloring-in-Layered-1
+enum_known-coloring-in-Layered-1 c = search rules
 
 laid-requires : tie.Need-laid-requires
 laid-requires c κs = search rules
 
-enum_told : tie.Need-enum-told
-enum_told c = search rules
+enum_told-1 : tie.Need-enum_told-1
+enum_told-1 c = search rules
 
 blended-requires : tie.Need-blended-requires
 blended-requires c κs = search rules
 
-returns : tie.Need-returns
+returns-in-Opaque : tie.Need-returns-in-Opaque
 unfolding ColoringOf
-returns c =
-    let s = c.before.before.before in
+returns-in-Opaque c =
+    let s = c.before in
     let a = s.args in
-    let o = subst (ColoringOf a.mode a.combiner a.source.color) c.before.coloring.given.1 s.requires.1 in
+    let o = subst (ColoringOf a.mode a.combiner a.source.color) c.in-Opaque.is s.requires.1 in
     let p = opaque a.mode a.source.color.a o.0 in
     let yes = sym (opaque_yes a.mode a.combiner a.source a.bytes p) in
     let colors = o.1 ∙ sym (opaque_colors a.mode a.combiner a.source a.bytes p) in
     λ i. record { known = yes i; colors = colors i }
 
-returns-2 : tie.Need-returns-2
+returns-in-Layered : tie.Need-returns-in-Layered
 unfolding ColoringOf
-returns-2 c =
-    let s = c.before.before.before.before in
+returns-in-Layered c =
+    let s = c.before.before in
     let a = s.args in
-    let o = subst (ColoringOf a.mode a.combiner a.source.color) c.before.before.coloring2.given.1 s.requires.1 in
+    let o = subst (ColoringOf a.mode a.combiner a.source.color) c.in-Layered.is s.requires.1 in
     let p = layered a.mode a.source.color.a o.0 in
     let r = c.laid.ensures in
     let known = r.0 ∙ sym (layered_known a.mode a.combiner a.source a.bytes p) in
@@ -51,18 +51,18 @@ returns-2 c =
     r.1 ∙ (λ i. cond (color_marked a.bytes.mark) (over_colors (o.1 i) (rule_f4 a.bytes)) (rule_f4 a.bytes)) ∙ sym (layered_colors a.mode a.combiner a.source a.bytes p) in
     λ i. record { known = known i; colors = colors i }
 
-returns-3 : tie.Need-returns-3
-returns-3 c = search rules
+returns-in-Blended : tie.Need-returns-in-Blended
+returns-in-Blended c = search rules
 
-pub color-after-spec : {M : Type 1} → statement M
-color-after-spec =
+pub color_after_spec : {M : Type 1} → statement M
+color_after_spec =
     tie.close
     (tie.spec
-    enum-known-coloring
-    enum-known-coloring-2
+    enum_known-coloring
+    enum_known-coloring-in-Layered-1
     laid-requires
-    enum_told
+    enum_told-1
     blended-requires
-    returns
-    returns-2
-    returns-3)
+    returns-in-Opaque
+    returns-in-Layered
+    returns-in-Blended)

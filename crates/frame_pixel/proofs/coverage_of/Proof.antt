@@ -4,14 +4,14 @@ use mathlib.Core.Path.{sym, ◌∙◌}
 use Rattle.frame_pixel.proofs.coverage_of.Statement.{statement}
 use Rattle.frame_pixel.proofs.coverage_of.Tie as tie
 
-coverage-marked-requires : tie.Need-coverage-marked-requires
-coverage-marked-requires c κs = search rules
+coverage_marked-requires : tie.Need-coverage_marked-requires
+coverage_marked-requires c κs = search rules
+
+returns-then-coverage_marked : tie.Need-returns-then-coverage_marked
+returns-then-coverage_marked c = simp (sym c.coverage_marked.ensures ∙ c.if-coverage_marked.true)
 
 returns : tie.Need-returns
-returns c = simp (sym c.before.coverage-marked.ensures ∙ c.if1.true)
+returns c = simp (sym c.coverage_marked.ensures ∙ c.if-coverage_marked.false)
 
-returns-2 : tie.Need-returns-2
-returns-2 c = simp (sym c.before.coverage-marked.ensures ∙ c.if1.false)
-
-pub coverage-of-spec : {M : Type 1} → statement M
-coverage-of-spec = tie.close (tie.spec coverage-marked-requires returns returns-2)
+pub coverage_of_spec : {M : Type 1} → statement M
+coverage_of_spec = tie.close (tie.spec coverage_marked-requires returns-then-coverage_marked returns)

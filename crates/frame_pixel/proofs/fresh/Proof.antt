@@ -30,20 +30,20 @@ rest k clamp z f = sym ((λ i. cond (ne_eqb k 0 z i) clamp (cond (eqb k 1) Unkno
     go true = refl
     go false = refl
 
-fresh-clamp-requires : tie.Need-fresh-clamp-requires
-fresh-clamp-requires c κs = search rules
+fresh_clamp-requires : tie.Need-fresh_clamp-requires
+fresh_clamp-requires c κs = search rules
 
-returns : tie.Need-returns
+returns-in-0 : tie.Need-returns-in-0
 unfolding at
-returns c = let s = c.before.before in arm s (c.fresh-clamp.ensures ∙ ap (at s) (sym c.before.match.keys1))
+returns-in-0 c = let s = c.before.before in arm s (c.fresh_clamp.ensures ∙ ap (at s) (sym c.in-0.is))
 
-returns-2 : tie.Need-returns-2
+returns-in-2 : tie.Need-returns-in-2
 unfolding at
-returns-2 c = let s = c.before in arm s (ap (at s) (sym c.match.keys2))
+returns-in-2 c = let s = c.before in arm s (ap (at s) (sym c.in-2.is))
 
-returns-3 : tie.Need-returns-3
+returns-in_default : tie.Need-returns-in_default
 unfolding at
-returns-3 c = let s = c.before in arm s (rest _ _ c.match.rest.0.1 c.match.rest.1)
+returns-in_default c = let s = c.before in arm s (rest _ _ c.in_default.in_default-own.rest.0.1 c.in_default.in_default-own.rest.1)
 
-pub fresh-spec : {M : Type 1} → statement M
-fresh-spec = tie.close (tie.spec fresh-clamp-requires returns returns-2 returns-3)
+pub fresh_spec : {M : Type 1} → statement M
+fresh_spec = tie.close (tie.spec fresh_clamp-requires returns-in-0 returns-in-2 returns-in_default)

@@ -6,29 +6,29 @@ use Rattle.frame_pixel.specs.Rules.{rule_f2}
 use Rattle.frame_pixel.proofs.in_doubt.Statement.{statement}
 use Rattle.frame_pixel.proofs.in_doubt.Tie as tie
 
-is-unknown-requires : tie.Need-is-unknown-requires
-is-unknown-requires c κs = search rules
+is_unknown-requires : tie.Need-is_unknown-requires
+is_unknown-requires c κs = search rules
 
-returns : tie.Need-returns
+returns-then-mode-2 : tie.Need-returns-then-mode-2
 unfolding rule_f2
-returns c = simp (sym c.before.before.before.is-unknown.ensures ∙ c.before.before.if1.true, c.before.if2.true, c.if3.true)
+returns-then-mode-2 c = simp (sym c.is_unknown.ensures ∙ c.if-is_unknown.true, c.if-mode.true, c.if-mode-2.true)
 
 rejects-requires : tie.Need-rejects-requires
 rejects-requires c κs = search rules
 
-returns-2 : tie.Need-returns-2
+returns-then-mode : tie.Need-returns-then-mode
 unfolding rule_f2
-returns-2 c =
-    simp (sym c.before.before.before.before.is-unknown.ensures ∙ c.before.before.before.if1.true, c.before.before.if2.true, c.before.if3.false)
+returns-then-mode c =
+    simp (sym c.is_unknown.ensures ∙ c.if-is_unknown.true, c.if-mode.true, c.if-mode-2.false)
     (ap not c.rejects.ensures)
 
-returns-3 : tie.Need-returns-3
+returns-then-is_unknown : tie.Need-returns-then-is_unknown
 unfolding rule_f2
-returns-3 c = simp (sym c.before.before.is-unknown.ensures ∙ c.before.if1.true, c.if2.false)
+returns-then-is_unknown c = simp (sym c.is_unknown.ensures ∙ c.if-is_unknown.true, c.if-mode.false)
 
-returns-4 : tie.Need-returns-4
+returns : tie.Need-returns
 unfolding rule_f2
-returns-4 c = simp (sym c.before.is-unknown.ensures ∙ c.if1.false)
+returns c = simp (sym c.is_unknown.ensures ∙ c.if-is_unknown.false)
 
-pub in-doubt-spec : {M : Type 1} → statement M
-in-doubt-spec = tie.close (tie.spec is-unknown-requires returns rejects-requires returns-2 returns-3 returns-4)
+pub in_doubt_spec : {M : Type 1} → statement M
+in_doubt_spec = tie.close (tie.spec is_unknown-requires returns-then-mode-2 rejects-requires returns-then-mode returns-then-is_unknown returns)

@@ -4,11 +4,11 @@ use borrow.Author.Rules.{rules}
 use Rattle.frame_pixel.proofs.kept.Statement.{statement}
 use Rattle.frame_pixel.proofs.kept.Tie as tie
 
-colors-of-requires : tie.Need-colors-of-requires
-colors-of-requires c κs = search rules
+colors_of-requires : tie.Need-colors_of-requires
+colors_of-requires c κs = search rules
 
 returns : tie.Need-returns
-returns c = λ i. record { known = false; colors = c.colors-of.ensures i }
+returns c = λ i. record { known = false; colors = c.colors_of.ensures i }
 
-pub kept-spec : {M : Type 1} → statement M
-kept-spec = tie.close (tie.spec colors-of-requires returns)
+pub kept_spec : {M : Type 1} → statement M
+kept_spec = tie.close (tie.spec colors_of-requires returns)

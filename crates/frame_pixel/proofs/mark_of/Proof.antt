@@ -5,21 +5,21 @@ use borrow.Author.Rules.{rules}
 use Rattle.frame_pixel.proofs.mark_of.Statement.{statement}
 use Rattle.frame_pixel.proofs.mark_of.Tie as tie
 
+returns-then-covered : tie.Need-returns-then-covered
+unfolding mark_of
+returns-then-covered c = λ i. mark_of (sym c.if-known.true i) (sym c.if-covered.true i)
+
+returns-then-known : tie.Need-returns-then-known
+unfolding mark_of
+returns-then-known c = λ i. mark_of (sym c.if-known.true i) (sym c.if-covered.false i)
+
+returns-then-covered-2 : tie.Need-returns-then-covered-2
+unfolding mark_of
+returns-then-covered-2 c = λ i. mark_of (sym c.if-known.false i) (sym c.if-covered-2.true i)
+
 returns : tie.Need-returns
 unfolding mark_of
-returns c = λ i. mark_of (sym c.before.if1.true i) (sym c.if2.true i)
+returns c = λ i. mark_of (sym c.if-known.false i) (sym c.if-covered-2.false i)
 
-returns-2 : tie.Need-returns-2
-unfolding mark_of
-returns-2 c = λ i. mark_of (sym c.before.if1.true i) (sym c.if2.false i)
-
-returns-3 : tie.Need-returns-3
-unfolding mark_of
-returns-3 c = λ i. mark_of (sym c.before.if1.false i) (sym c.if3.true i)
-
-returns-4 : tie.Need-returns-4
-unfolding mark_of
-returns-4 c = λ i. mark_of (sym c.before.if1.false i) (sym c.if3.false i)
-
-pub mark-of-spec : {M : Type 1} → statement M
-mark-of-spec = tie.close (tie.spec returns returns-2 returns-3 returns-4)
+pub mark_of_spec : {M : Type 1} → statement M
+mark_of_spec = tie.close (tie.spec returns-then-covered returns-then-known returns-then-covered-2 returns)

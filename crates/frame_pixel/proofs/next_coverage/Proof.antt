@@ -9,31 +9,31 @@ use Rattle.blender.specs.Blend.{or_zero}
 use Rattle.frame_pixel.proofs.next_coverage.Statement.{statement}
 use Rattle.frame_pixel.proofs.next_coverage.Tie as tie
 
-enum-known-coverage : tie.Need-enum-known-coverage
-enum-known-coverage c = search rules
+enum_known-coverage : tie.Need-enum_known-coverage
+enum_known-coverage c = search rules
 
 destination-requires : tie.Need-destination-requires
 destination-requires c κs =
-    let start = c.before.before.before in
-    (start.requires.0.0, start.requires.0.1, subst (λ (k : Coverage). or_zero k ≤ 7) c.before.coverage.given.1 start.requires.1)
+    let start = c.before in
+    (start.requires.0.0, start.requires.0.1, subst (λ (k : Coverage). or_zero k ≤ 7) c.in-Known.is start.requires.1)
 
-enum_told : tie.Need-enum-told
-enum_told c = search rules
+enum_told-1 : tie.Need-enum_told-1
+enum_told-1 c = search rules
 
 fresh-requires : tie.Need-fresh-requires
 fresh-requires c κs = search rules
 
-returns : tie.Need-returns
+returns-in-Known : tie.Need-returns-in-Known
 unfolding rule_f5
-returns c =
-    let a = c.before.before.before.before.args in
-    ap Known c.destination.ensures.0 ∙ sym (ap (rule_f5 a.mode a.count) c.before.before.coverage.given.1)
+returns-in-Known c =
+    let a = c.args in
+    ap Known c.destination.ensures.0 ∙ sym (ap (rule_f5 a.mode a.count) c.in-Known.is)
 
-returns-2 : tie.Need-returns-2
+returns-in-Unknown : tie.Need-returns-in-Unknown
 unfolding rule_f5
-returns-2 c =
-    let a = c.before.before.before.args in
-    c.fresh.ensures ∙ sym (ap (rule_f5 a.mode a.count) c.before.enum_told.given.1)
+returns-in-Unknown c =
+    let a = c.args in
+    c.fresh.ensures ∙ sym (ap (rule_f5 a.mode a.count) c.in-Unknown.is)
 
-pub next-coverage-spec : {M : Type 1} → statement M
-next-coverage-spec = tie.close (tie.spec enum-known-coverage destination-requires enum_told fresh-requires returns returns-2)
+pub next_coverage_spec : {M : Type 1} → statement M
+next_coverage_spec = tie.close (tie.spec enum_known-coverage destination-requires enum_told-1 fresh-requires returns-in-Known returns-in-Unknown)

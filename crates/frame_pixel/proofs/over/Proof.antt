@@ -6,16 +6,16 @@ use borrow.Author.Rules.{rules}
 use Rattle.frame_pixel.proofs.over.Statement.{statement}
 use Rattle.frame_pixel.proofs.over.Tie as tie
 
-unit-of-requires : tie.Need-unit-of-requires
-unit-of-requires c κs = search rules
+unit_of-requires : tie.Need-unit_of-requires
+unit_of-requires c κs = search rules
 
-byte-of-requires : tie.Need-byte-of-requires
-byte-of-requires c κs = search rules
+byte_of-requires : tie.Need-byte_of-requires
+byte_of-requires c κs = search rules
 
 returns : tie.Need-returns
 returns c =
-    let a = c.before.before.args in
-    c.byte-of.ensures ∙ (λ i. byte_of (add binary32 a.part (mul binary32 (c.before.unit-of.ensures i) a.share)))
+    let a = c.args in
+    c.byte_of.ensures ∙ (λ i. byte_of (add binary32 a.part (mul binary32 (c.unit_of.ensures i) a.share)))
 
-pub over-spec : {M : Type 1} → statement M
-over-spec = tie.close (tie.spec unit-of-requires byte-of-requires returns)
+pub over_spec : {M : Type 1} → statement M
+over_spec = tie.close (tie.spec unit_of-requires byte_of-requires returns)

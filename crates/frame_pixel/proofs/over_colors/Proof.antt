@@ -15,7 +15,7 @@ over-requires-3 c κs = search rules
 
 returns : tie.Need-returns
 unfolding over_colors
-returns c = λ i. record { red = c.before.before.over.ensures i; green = c.before.over2.ensures i; blue = c.over3.ensures i }
+returns c = λ i. record { red = c.over.ensures i; green = c.over-2.ensures i; blue = c.over-3.ensures i }
 
-pub over-colors-spec : {M : Type 1} → statement M
-over-colors-spec = tie.close (tie.spec over-requires over-requires-2 over-requires-3 returns)
+pub over_colors_spec : {M : Type 1} → statement M
+over_colors_spec = tie.close (tie.spec over-requires over-requires-2 over-requires-3 returns)

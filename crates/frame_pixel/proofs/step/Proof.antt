@@ -8,16 +8,16 @@ use borrow.Author.Rules.{rules}
 use Rattle.frame_pixel.proofs.step.Statement.{statement}
 use Rattle.frame_pixel.proofs.step.Tie as tie
 
-coverage-of-requires : tie.Need-coverage-of-requires
-coverage-of-requires c κs = search rules
+coverage_of-coverage-requires : tie.Need-coverage_of-coverage-requires
+coverage_of-coverage-requires c κs = search rules
 
-color-after-requires : tie.Need-color-after-requires
-color-after-requires c κs = search rules
+color_after-color-requires : tie.Need-color_after-color-requires
+color_after-color-requires c κs = search rules
 
-next-coverage-requires : tie.Need-next-coverage-requires
-next-coverage-requires c κs =
+next_coverage-after-requires : tie.Need-next_coverage-after-requires
+next_coverage-after-requires c κs =
     let s = c.before.before in
-    (s.requires.0, subst (λ (k : Coverage). or_zero k ≤ 7) (sym c.before.coverage-of.ensures) s.requires.1.0)
+    (s.requires.0, subst (λ (k : Coverage). or_zero k ≤ 7) (sym c.coverage_of-coverage.ensures) s.requires.1.0)
 
 assemble-requires : tie.Need-assemble-requires
 assemble-requires c κs = search rules
@@ -26,17 +26,17 @@ returns : tie.Need-returns
 unfolding pixel_step coverage_after
 returns c =
     let n = c.before in
-    let a = n.before.before.before.args in
-    let color = n.before.color-after.ensures in
-    let coverage = n.next-coverage.ensures ∙ ap (rule_f5 a.mode a.source.count) n.before.before.coverage-of.ensures in
+    let a = n.args in
+    let color = n.color_after-color.ensures in
+    let coverage = n.next_coverage-after.ensures ∙ ap (rule_f5 a.mode a.source.count) n.coverage_of-coverage.ensures in
     c.assemble.ensures ∙ (λ i. assembled (color i).known (color i).colors (coverage i) a.bytes.coverage)
 
 pub step_spec : {M : Type 1} → statement M
 step_spec =
     tie.close
     (tie.spec
-    coverage-of-requires
-    color-after-requires
-    next-coverage-requires
+    coverage_of-coverage-requires
+    color_after-color-requires
+    next_coverage-after-requires
     assemble-requires
     returns)

@@ -5,12 +5,12 @@ use mathlib.Core.Path.{refl}
 use Rattle.frame_pixel.proofs.unit_of.Statement.{statement}
 use Rattle.frame_pixel.proofs.unit_of.Tie as tie
 
-int-to-float-result : tie.Need-int-to-float-result
-int-to-float-result c = search rules
+int_to_float-result : tie.Need-int_to_float-result
+int_to_float-result c = search rules
 
 returns : tie.Need-returns
 unfolding of_bits
 returns c = refl
 
-pub unit-of-spec : {M : Type 1} → statement M
-unit-of-spec = tie.close (tie.spec int-to-float-result returns)
+pub unit_of_spec : {M : Type 1} → statement M
+unit_of_spec = tie.close (tie.spec int_to_float-result returns)

@@ -5,17 +5,17 @@ use borrow.Author.Rules.{rules}
 use Rattle.frame_pixel.proofs.full.is_full.Statement.{statement}
 use Rattle.frame_pixel.proofs.full.is_full.Tie as tie
 
-enum_told : tie.Need-enum-told
-enum_told c = search rules
+enum_told-1 : tie.Need-enum_told-1
+enum_told-1 c = search rules
 
-enum-known-coverage : tie.Need-enum-known-coverage
-enum-known-coverage c = search rules
+enum_known-coverage : tie.Need-enum_known-coverage
+enum_known-coverage c = search rules
 
-returns : tie.Need-returns
-returns c = search rules
+returns-in-Unknown : tie.Need-returns-in-Unknown
+returns-in-Unknown c = search rules
 
-returns-2 : tie.Need-returns-2
-returns-2 c = sym (ap is_full c.before.coverage.given.1)
+returns-in-Known : tie.Need-returns-in-Known
+returns-in-Known c = sym (ap is_full c.in-Known.is)
 
-pub is-full-spec : {M : Type 1} → statement M
-is-full-spec = tie.close (tie.spec enum_told enum-known-coverage returns returns-2)
+pub is_full_spec : {M : Type 1} → statement M
+is_full_spec = tie.close (tie.spec enum_told-1 enum_known-coverage returns-in-Unknown returns-in-Known)
