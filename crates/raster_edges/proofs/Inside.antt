@@ -12,9 +12,9 @@ use borrow.Author.Tests.{lt-ltb, le-leb, ltb-true, leb-true}
 use Rattle.raster_edges.specs.declared.Edges.{Edges}
 use Rattle.raster_edges.specs.Sample.{sample_at, two_of, pair_of, mask_of}
 use Rattle.raster_range.specs.Inner.{Inner}
-use Rattle.raster_edge.specs.Bound.{pick_z, outer_of, clamp_of, range_of, edge_of_rows, full_from, full_to}
+use Rattle.raster_edge.specs.Bound.{pick_z, outer_of, range_of, edge_of_rows, full_from, full_to}
 use Rattle.raster_edges.specs.Bound.{all_samples}
-use Rattle.raster_edge.proofs.Clamped.{clamp_in, below_clamp, above_clamp}
+use Rattle.raster_edge.proofs.Clamped.{below_clamp, above_clamp}
 use Rattle.raster_edges.proofs.Outside.{le_flip}
 
 -- ---- order

@@ -1,7 +1,7 @@
 -- To be believed. What a triangle spans on a quarter line. The major edge runs from the first corner to the last; the other two meet at the middle one. These are
 -- the high, middle and low edges of the N64 Programming Manual and the N64brew wiki's RDP pages. Which lines count, which side is the left one and
 -- that the lower edge starts at the middle corner itself is the Rust's. Definitions only.
-use Rattle.std.specs.Prelude.{ℕ, ◌+◌, ◌*◌, Bool, true, false, List, [], ◌∷◌, map, ℤ, pos, ◌*ℤ◌}
+use Rattle.std.specs.Prelude.{ℕ, ◌+◌, ◌*◌, Bool, true, false, List, [], ◌∷◌, map, pos, ◌*ℤ◌}
 use Rattle.std.specs.Int.Signed.{lt_z, le_z}
 use Rattle.raster_edges.specs.declared.Corner.{Corner}
 use Rattle.raster_edges.specs.declared.Tri.{Tri}

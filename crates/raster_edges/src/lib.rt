@@ -1,3 +1,5 @@
+#![tactic(auto)]
+
 // The whole-number part of the Rust's rasterize: from a triangle's corners, in quarters of a pixel, to the eight samples of a pixel. A rectangle has such edges too.
 ghost use Rattle.std.specs.Prelude.{◌≡◌, ◌<◌, ◌≤◌, nat_abs};
 ghost use Rattle.raster_edge.specs.Limits.{Tame};
@@ -14,7 +16,7 @@ use raster_edge::{Edge, Span};
 use raster_range::Range;
 
 // A corner of a triangle, in quarters of a pixel.
-#[derive(Drop)]
+#[derive(Clone, Copy)]
 pub struct Corner {
     pub x: i64,
     pub y: i64,
@@ -22,7 +24,7 @@ pub struct Corner {
 
 // The edges of a triangle or of a rectangle. It covers the quarter lines from top to end; the upper edge gives way to the lower at mid.
 // The major edge is the left one if `rightward`.
-#[derive(Drop)]
+#[derive(Clone, Copy)]
 pub struct Tri {
     pub major: Edge,
     pub upper: Edge,
@@ -34,7 +36,7 @@ pub struct Tri {
 }
 
 // The spans of a row's four quarter lines.
-#[derive(Drop)]
+#[derive(Clone, Copy)]
 pub struct Edges {
     pub left: [i64; 4],
     pub right: [i64; 4],

@@ -17,13 +17,13 @@ back_to : (s : tie.Start)
     (shr_z s.args.step 4 *ℤ pos (mod_z s.args.a.y 4)) 8589934592
 back_to s = mul (shr (held s.ranges.step s.requires.1) 4 tt) (ones (small s.args.a.y s.requires.0.y_near tt) 62 2 refl tt tt) tt
 
-mul-result : tie.Need-overflow-mul-result
-mul-result c =
+overflow_mul-result : tie.Need-overflow_mul-result
+overflow_mul-result c =
     let s = c.before.before.before.before in
     fit_mul (shr (held s.ranges.step s.requires.1) 4 tt) (ones (small s.args.a.y s.requires.0.y_near tt) 62 2 refl tt tt) tt
 
-sub-result : tie.Need-overflow-sub-result
-sub-result c =
+overflow_sub-result : tie.Need-overflow_sub-result
+overflow_sub-result c =
     let s = c.before.before.before.before in
     fit_sub (shl (small s.args.a.x s.requires.0.x_near tt) 14 tt) (back_to s) tt
 
@@ -33,5 +33,5 @@ returns c =
     let s = c.before.before.before.before in
     (sub (shl (small s.args.a.x s.requires.0.x_near tt) 14 tt) (back_to s) tt).read
 
-pub edge-start-spec : {M : Type 1} → statement M
-edge-start-spec = tie.close (tie.spec mul-result sub-result returns)
+pub edge_start_spec : {M : Type 1} → statement M
+edge_start_spec = tie.close (tie.spec overflow_mul-result overflow_sub-result returns)

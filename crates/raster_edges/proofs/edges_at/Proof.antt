@@ -14,17 +14,17 @@ use borrow.Author.Rules.{rules}
 use Rattle.raster_edges.proofs.edges_at.Statement.{statement}
 use Rattle.raster_edges.proofs.edges_at.Tie as tie
 
-mul-n : tie.Need-overflow-mul-n
-mul-n c = search rules
+overflow_mul-n : tie.Need-overflow_mul-n
+overflow_mul-n c = search rules
 
-cast-first : tie.Need-overflow-cast-first
-cast-first c = search rules
+overflow_cast-first : tie.Need-overflow_cast-first
+overflow_cast-first c = search rules
 
-add-last : tie.Need-overflow-add-last
-add-last c = search rules
+overflow_add-last : tie.Need-overflow_add-last
+overflow_add-last c = search rules
 
-cast-last : tie.Need-overflow-cast-last
-cast-last c = search rules
+overflow_cast-last : tie.Need-overflow_cast-last
+overflow_cast-last c = search rules
 
 -- the tests, of the numbers themselves
 module _ (s : tie.Start) where
@@ -38,54 +38,54 @@ module _ (s : tie.Start) where
   last = uns (omega arith) tt
 
   top_first : {b : Bool} → le_z (to_z w64 (of_z w64 t.top)) (to_z w64 (s.args.y * 4)) ≡ b → le_z t.top (pos (s.args.y * 4)) ≡ b
-  top_first e = sym (le_is (small t.top s.pre.0.top_small tt) first) ∙ e
+  top_first e = sym (le_is (small t.top s.requires.0.top_small tt) first) ∙ e
 
   last_end : {b : Bool} → lt_z (to_z w64 (s.args.y * 4 + 3)) (to_z w64 (of_z w64 t.end)) ≡ b → lt_z (pos (s.args.y * 4 + 3)) t.end ≡ b
-  last_end e = sym (lt_is last (small t.end s.pre.0.end_small tt)) ∙ e
+  last_end e = sym (lt_is last (small t.end s.requires.0.end_small tt)) ∙ e
 
   mid_first : {b : Bool} → le_z (to_z w64 (of_z w64 t.mid)) (to_z w64 (s.args.y * 4)) ≡ b → le_z t.mid (pos (s.args.y * 4)) ≡ b
-  mid_first e = sym (le_is (small t.mid s.pre.0.mid_small tt) first) ∙ e
+  mid_first e = sym (le_is (small t.mid s.requires.0.mid_small tt) first) ∙ e
 
   last_mid : {b : Bool} → lt_z (to_z w64 (s.args.y * 4 + 3)) (to_z w64 (of_z w64 t.mid)) ≡ b → lt_z (pos (s.args.y * 4 + 3)) t.mid ≡ b
-  last_mid e = sym (lt_is last (small t.mid s.pre.0.mid_small tt)) ∙ e
+  last_mid e = sym (lt_is last (small t.mid s.requires.0.mid_small tt)) ∙ e
 
-row-at-requires : tie.Need-row-at-requires
-row-at-requires c κs = search rules
+row_at-requires : tie.Need-row_at-requires
+row_at-requires c κs = search rules
 
-returns : tie.Need-returns
-returns c =
+returns-then-last-mid : tie.Need-returns-then-last-mid
+returns-then-last-mid c =
     let m = c.before.before in
     let d = m.before.before in
     let s = d.before.before.before.before.before in
-    c.row_at.ensures ∙ upper_row s.args.t s.args.y (top_first s d.before.if1.true) (last_end s d.if2.true) (last_mid s m.if3.true)
+    c.row_at.ensures ∙ upper_row s.args.t s.args.y (top_first s d.if-top-first.true) (last_end s d.if-last-end.true) (last_mid s m.if-last-mid.true)
 
-row-at-requires-2 : tie.Need-row-at-requires-2
-row-at-requires-2 c κs = search rules
+row_at-requires-then-mid-first : tie.Need-row_at-requires-then-mid-first
+row_at-requires-then-mid-first c κs = search rules
 
-returns-2 : tie.Need-returns-2
-returns-2 c =
+returns-then-mid-first : tie.Need-returns-then-mid-first
+returns-then-mid-first c =
     let m = c.before.before in
     let d = m.before.before.before in
     let s = d.before.before.before.before.before in
-    c.row-at2.ensures ∙ lower_row s.args.t s.args.y (top_first s d.before.if1.true) (last_end s d.if2.true) (mid_first s m.if4.true)
+    c.row_at-then-mid-first.ensures ∙ lower_row s.args.t s.args.y (top_first s d.if-top-first.true) (last_end s d.if-last-end.true) (mid_first s m.if-mid-first.true)
 
-lines-at-requires : tie.Need-lines-at-requires
-lines-at-requires c κs = search rules
+lines_at-requires : tie.Need-lines_at-requires
+lines_at-requires c κs = search rules
 
-returns-3 : tie.Need-returns-3
-returns-3 c = search rules
+returns : tie.Need-returns
+returns c = search rules
 
-pub edges-at-spec : {M : Type 1} → statement M
-edges-at-spec =
+pub edges_at_spec : {M : Type 1} → statement M
+edges_at_spec =
     tie.close
     (tie.spec
-    mul-n
-    cast-first
-    add-last
-    cast-last
-    row-at-requires
-    returns
-    row-at-requires-2
-    returns-2
-    lines-at-requires
-    returns-3)
+    overflow_mul-n
+    overflow_cast-first
+    overflow_add-last
+    overflow_cast-last
+    row_at-requires
+    returns-then-last-mid
+    row_at-requires-then-mid-first
+    returns-then-mid-first
+    lines_at-requires
+    returns)

@@ -13,29 +13,29 @@ use borrow.Author.Rules.{rules}
 use Rattle.raster_edges.proofs.lines_at.Statement.{statement}
 use Rattle.raster_edges.proofs.lines_at.Tie as tie
 
-mul-n : tie.Need-overflow-mul-n
-mul-n c = search rules
+overflow_mul-n : tie.Need-overflow_mul-n
+overflow_mul-n c = search rules
 
-line-at-requires : tie.Need-line-at-requires
-line-at-requires c κs = search rules
+line_at-a-requires : tie.Need-line_at-a-requires
+line_at-a-requires c κs = search rules
 
-add-line-at : tie.Need-overflow-add-line-at
-add-line-at c = search rules
+overflow_add-n : tie.Need-overflow_add-n
+overflow_add-n c = search rules
 
-line-at-requires-2 : tie.Need-line-at-requires-2
-line-at-requires-2 c κs = search rules
+line_at-b-requires : tie.Need-line_at-b-requires
+line_at-b-requires c κs = search rules
 
-add-line-at-2 : tie.Need-overflow-add-line-at-2
-add-line-at-2 c = search rules
+overflow_add-n-2 : tie.Need-overflow_add-n-2
+overflow_add-n-2 c = search rules
 
-line-at-requires-3 : tie.Need-line-at-requires-3
-line-at-requires-3 c κs = search rules
+line_at-c-requires : tie.Need-line_at-c-requires
+line_at-c-requires c κs = search rules
 
-add-line-at-3 : tie.Need-overflow-add-line-at-3
-add-line-at-3 c = search rules
+overflow_add-n-3 : tie.Need-overflow_add-n-3
+overflow_add-n-3 c = search rules
 
-line-at-requires-4 : tie.Need-line-at-requires-4
-line-at-requires-4 c κs = search rules
+line_at-d-requires : tie.Need-line_at-d-requires
+line_at-d-requires c κs = search rules
 
 -- the two ends of a span that fits, as the code copies them
 left : {s t : Span} → mag s.l < 2 ^ 63 → s ≡ t → to_z w64 (of_z w64 s.l) ≡ t.l
@@ -51,26 +51,26 @@ returns c =
     let d₃ = d₄.before in
     let d₂ = d₃.before in
     let d₁ = d₂.before in
-    let t = d₁.before.args.t in
-    let y = d₁.before.args.y in
-    let e : d₁.line_at_lem.result ≡ line_of t (y * 4 + 0) = d₁.line_at_lem.ensures ∙ ap (line_of t) (sym (add-zero (y * 4))) in
+    let t = d₁.args.t in
+    let y = d₁.args.y in
+    let e : d₁.line_at-a.result ≡ line_of t (y * 4 + 0) = d₁.line_at-a.ensures ∙ ap (line_of t) (sym (add-zero (y * 4))) in
     λ i. record {
-      left = left d₁.line_at_lem.type-inv.1.1.0.1 e i ∷ left d₂.line-at2.type-inv.1.1.0.1 d₂.line-at2.ensures i
-          ∷ left d₃.line-at3.type-inv.1.1.0.1 d₃.line-at3.ensures i ∷ left d₄.line-at4.type-inv.1.1.0.1 d₄.line-at4.ensures i ∷ [];
-      right = right d₁.line_at_lem.type-inv.1.1.1.0.1 e i ∷ right d₂.line-at2.type-inv.1.1.1.0.1 d₂.line-at2.ensures i
-          ∷ right d₃.line-at3.type-inv.1.1.1.0.1 d₃.line-at3.ensures i ∷ right d₄.line-at4.type-inv.1.1.1.0.1 d₄.line-at4.ensures i ∷ [];
+      left = left d₁.line_at-a.type_inv.1.1.0.1 e i ∷ left d₂.line_at-b.type_inv.1.1.0.1 d₂.line_at-b.ensures i
+          ∷ left d₃.line_at-c.type_inv.1.1.0.1 d₃.line_at-c.ensures i ∷ left d₄.line_at-d.type_inv.1.1.0.1 d₄.line_at-d.ensures i ∷ [];
+      right = right d₁.line_at-a.type_inv.1.1.1.0.1 e i ∷ right d₂.line_at-b.type_inv.1.1.1.0.1 d₂.line_at-b.ensures i
+          ∷ right d₃.line_at-c.type_inv.1.1.1.0.1 d₃.line_at-c.ensures i ∷ right d₄.line_at-d.type_inv.1.1.1.0.1 d₄.line_at-d.ensures i ∷ [];
     }
 
-pub lines-at-spec : {M : Type 1} → statement M
-lines-at-spec =
+pub lines_at_spec : {M : Type 1} → statement M
+lines_at_spec =
     tie.close
     (tie.spec
-    mul-n
-    line-at-requires
-    add-line-at
-    line-at-requires-2
-    add-line-at-2
-    line-at-requires-3
-    add-line-at-3
-    line-at-requires-4
+    overflow_mul-n
+    line_at-a-requires
+    overflow_add-n
+    line_at-b-requires
+    overflow_add-n-2
+    line_at-c-requires
+    overflow_add-n-3
+    line_at-d-requires
     returns)

@@ -8,17 +8,17 @@ use borrow.Author.Rules.{rules}
 use Rattle.raster_edges.proofs.mask.Statement.{statement}
 use Rattle.raster_edges.proofs.mask.Tie as tie
 
-pair-requires : tie.Need-pair-requires
-pair-requires c κs = search rules
+pair-a-requires : tie.Need-pair-a-requires
+pair-a-requires c κs = search rules
 
-pair-requires-2 : tie.Need-pair-requires-2
-pair-requires-2 c κs = search rules
+pair-b-requires : tie.Need-pair-b-requires
+pair-b-requires c κs = search rules
 
-pair-requires-3 : tie.Need-pair-requires-3
-pair-requires-3 c κs = search rules
+pair-c-requires : tie.Need-pair-c-requires
+pair-c-requires c κs = search rules
 
-pair-requires-4 : tie.Need-pair-requires-4
-pair-requires-4 c κs = search rules
+pair-d-requires : tie.Need-pair-d-requires
+pair-d-requires c κs = search rules
 
 -- the four pairs of a pixel
 met : (e : Edges) (x : ℕ) {a b c d : ℕ} → a ≡ pair_of e x 0 → b ≡ pair_of e x 1 → c ≡ pair_of e x 2 → d ≡ pair_of e x 3 → bits a b c d ≡ mask_of e x
@@ -30,7 +30,7 @@ met e x p q r s =
 returns : tie.Need-returns
 returns c =
     let s = c.before.before.before.before in
-    met s.args.e s.args.x c.before.before.before.pair.ensures c.before.before.pair2.ensures c.before.pair3.ensures c.pair4.ensures
+    met s.args.e s.args.x c.pair-a.ensures c.pair-b.ensures c.pair-c.ensures c.pair-d.ensures
 
-pub mask-spec : {M : Type 1} → statement M
-mask-spec = tie.close (tie.spec pair-requires pair-requires-2 pair-requires-3 pair-requires-4 returns)
+pub mask_spec : {M : Type 1} → statement M
+mask_spec = tie.close (tie.spec pair-a-requires pair-b-requires pair-c-requires pair-d-requires returns)

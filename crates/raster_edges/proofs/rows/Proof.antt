@@ -9,8 +9,8 @@ use Rattle.raster_edges.proofs.Outside.{kept_rows}
 use Rattle.raster_edges.proofs.rows.Statement.{statement}
 use Rattle.raster_edges.proofs.rows.Tie as tie
 
-add-within : tie.Need-overflow-add-within
-add-within c = fit_plus _ (part (got c.before.before.args.t.end c.struct-told2.given.1.1.1.1.1.0.1) 4 tt) tt
+overflow_add-end : tie.Need-overflow_add-end
+overflow_add-end c = fit_plus _ (part (got c.args.t.end c.struct_told-2-1.given.1.1.1.1.1.0.1) 4 tt) tt
 
 within-requires : tie.Need-within-requires
 within-requires c κs = search rules
@@ -20,10 +20,10 @@ returns c =
     let d = c.before in
     let s = d.before.before in
     let a = s.args in
-    let l = (part (got a.t.top d.before.struct_told.given.1.1.1.0.1) 4 tt).read in
-    let r = (add (part (got a.t.end d.struct-told2.given.1.1.1.1.1.0.1) 4 tt) (lit 1 tt) tt).read in
+    let l = (part (got a.t.top d.struct_told-1.given.1.1.1.0.1) 4 tt).read in
+    let r = (add (part (got a.t.end d.struct_told-2-1.given.1.1.1.1.1.0.1) 4 tt) (lit 1 tt) tt).read in
     subst⁻¹ (Kept (no_row a.t) a.y0 a.y1) (c.within.ensures ∙ (λ i. range_of (l i) (r i) a.y0 a.y1))
     (kept_rows a.t a.y0 a.y1 s.requires)
 
-pub rows-spec : {M : Type 1} → statement M
-rows-spec = tie.close (tie.spec add-within within-requires returns)
+pub rows_spec : {M : Type 1} → statement M
+rows_spec = tie.close (tie.spec overflow_add-end within-requires returns)

@@ -13,63 +13,63 @@ use borrow.Author.Rules.{rules}
 use Rattle.raster_edges.proofs.setup.Statement.{statement}
 use Rattle.raster_edges.proofs.setup.Tie as tie
 
-array-copy-out-a : tie.Need-array-copy-out-a
-array-copy-out-a c = search rules
+bounds-v-0 : tie.Need-bounds-v-0
+bounds-v-0 c = search rules
 
-array-copy-out-b : tie.Need-array-copy-out-b
-array-copy-out-b c = search rules
+bounds-v-1 : tie.Need-bounds-v-1
+bounds-v-1 c = search rules
 
-array-copy-out-c : tie.Need-array-copy-out-c
-array-copy-out-c c = search rules
+bounds-v-2 : tie.Need-bounds-v-2
+bounds-v-2 c = search rules
 
-slope-requires : tie.Need-slope-requires
-slope-requires c κs = search rules
+slope-s-requires : tie.Need-slope-s-requires
+slope-s-requires c κs = search rules
 
-slope-requires-2 : tie.Need-slope-requires-2
-slope-requires-2 c κs = search rules
+slope-u-requires : tie.Need-slope-u-requires
+slope-u-requires c κs = search rules
 
-slope-requires-3 : tie.Need-slope-requires-3
-slope-requires-3 c κs = search rules
+slope-w-requires : tie.Need-slope-w-requires
+slope-w-requires c κs = search rules
 
-module _ (d : tie.After-slope3) where
+module _ (d : tie.After-slope-w) where
   abbrev start : tie.Start
   start = d.before.before.before.before.before.before
 
   abbrev a : Corner
-  a = corner_at start.args.t1 0
+  a = corner_at start.args.v 0
 
   abbrev b : Corner
-  b = corner_at start.args.t1 1
+  b = corner_at start.args.v 1
 
   abbrev c : Corner
-  c = corner_at start.args.t1 2
+  c = corner_at start.args.v 2
 
-  abbrev near : AllNear start.args.t1
-  near = start.pre
+  abbrev near : AllNear start.args.v
+  near = start.requires
 
   -- the three slopes
-  major_is : to_z w64 (of_z w64 d.before.before.slope.result) ≡ slope_of a c
-  major_is = back d.before.before.slope.result d.before.before.slope.ok ∙ d.before.before.slope.ensures
+  major_is : to_z w64 (of_z w64 d.slope-s.result) ≡ slope_of a c
+  major_is = back d.slope-s.result d.slope-s.type_inv ∙ d.slope-s.ensures
 
-  upper_is : to_z w64 (of_z w64 d.before.slope2.result) ≡ slope_of a b
-  upper_is = back d.before.slope2.result d.before.slope2.ok ∙ d.before.slope2.ensures
+  upper_is : to_z w64 (of_z w64 d.slope-u.result) ≡ slope_of a b
+  upper_is = back d.slope-u.result d.slope-u.type_inv ∙ d.slope-u.ensures
 
-  lower_is : to_z w64 (of_z w64 d.slope3.result) ≡ slope_of b c
-  lower_is = back d.slope3.result d.slope3.ok ∙ d.slope3.ensures
+  lower_is : to_z w64 (of_z w64 d.slope-w.result) ≡ slope_of b c
+  lower_is = back d.slope-w.result d.slope-w.type_inv ∙ d.slope-w.ensures
 
-edge-from-requires : tie.Need-edge-from-requires
-edge-from-requires k κs = ((near k).a_near, rw (major_is k) (size_slope (a k) (c k) (near k).a_near (near k).c_near))
+edge_from-major-requires : tie.Need-edge_from-major-requires
+edge_from-major-requires k κs = ((near k).a_near, rw (major_is k) (size_slope (a k) (c k) (near k).a_near (near k).c_near))
 
-edge-from-requires-2 : tie.Need-edge-from-requires-2
-edge-from-requires-2 k κs = let d = k.before in ((near d).a_near, rw (upper_is d) (size_slope (a d) (b d) (near d).a_near (near d).b_near))
+edge_from-upper-requires : tie.Need-edge_from-upper-requires
+edge_from-upper-requires k κs = let d = k.before in ((near d).a_near, rw (upper_is d) (size_slope (a d) (b d) (near d).a_near (near d).b_near))
 
 returns : tie.Need-returns
 unfolding tri_by
 returns k =
     let e = k.before.before.before.before.before.before in
     let d = e.before.before in
-    let m = e.before.edge-from.ensures ∙ ap (edge_from (a d)) (major_is d) in
-    let u = e.edge-from2.ensures ∙ ap (edge_from (a d)) (upper_is d) in
+    let m = e.edge_from-major.ensures ∙ ap (edge_from (a d)) (major_is d) in
+    let u = e.edge_from-upper.ensures ∙ ap (edge_from (a d)) (upper_is d) in
     λ i. record {
       major = m i;
       upper = u i;
@@ -80,16 +80,16 @@ returns k =
       rightward = le_z (major_is d i) (upper_is d i);
     }
 
-pub setup-spec : {M : Type 1} → statement M
-setup-spec =
+pub setup_spec : {M : Type 1} → statement M
+setup_spec =
     tie.close
     (tie.spec
-    array-copy-out-a
-    array-copy-out-b
-    array-copy-out-c
-    slope-requires
-    slope-requires-2
-    slope-requires-3
-    edge-from-requires
-    edge-from-requires-2
+    bounds-v-0
+    bounds-v-1
+    bounds-v-2
+    slope-s-requires
+    slope-u-requires
+    slope-w-requires
+    edge_from-major-requires
+    edge_from-upper-requires
     returns)

@@ -14,13 +14,13 @@ use Rattle.raster_edge.proofs.Size.{size_away, size_one, one_le}
 use Rattle.raster_edges.proofs.slope.Statement.{statement}
 use Rattle.raster_edges.proofs.slope.Tie as tie
 
-sub-dx : tie.Need-overflow-sub-dx
-sub-dx c =
+overflow_sub-dx : tie.Need-overflow_sub-dx
+overflow_sub-dx c =
     let s = c.before.before.before.before in
     fit_diff s.args.b.x s.args.a.x s.requires.1.x_near s.requires.0.x_near
 
-sub-dy : tie.Need-overflow-sub-dy
-sub-dy c =
+overflow_sub-dy : tie.Need-overflow_sub-dy
+overflow_sub-dy c =
     let s = c.before.before.before.before.before.before.before.before in
     fit_diff s.args.b.y s.args.a.y s.requires.1.y_near s.requires.0.y_near
 
@@ -38,11 +38,11 @@ module _ (c : tie.After-max1) where
   dy = start.args.b.y -ℤ start.args.a.y
 
   over : Held ((of_z w64 (to_z w64 (of_z w64 start.args.b.x) -ℤ to_z w64 (of_z w64 start.args.a.x)) * 65536) % 2 ^ 64) (dx *ℤ pos 65536) 1073741824
-  over = shl (diff start.args.b.x start.args.a.x start.pre.1.x_near start.pre.0.x_near) 16 tt
+  over = shl (diff start.args.b.x start.args.a.x start.requires.1.x_near start.requires.0.x_near) 16 tt
 
   height : Held (of_z w64 c.max1.result) (pos (at_least_one dy)) 16385
   height =
-      let d = diff start.args.b.y start.args.a.y start.pre.1.y_near start.pre.0.y_near in
+      let d = diff start.args.b.y start.args.a.y start.requires.1.y_near start.requires.0.y_near in
       made (c.max1.ensures ∙ ap (λ (z : ℤ). pos (at_least_one z)) d.read) (omega (arith, d.size, size_one dy)) tt
 
 away-requires : tie.Need-away-requires
@@ -61,5 +61,5 @@ returns c =
     let e : c.away.result ≡ away_div x y = c.away.ensures ∙ ap₂ away_div n.read (ap nat_abs d.read) in
     (low (made {z = away_div x y} {B = 1073758209} e (omega (arith, size_away x y, n.size, d.size)) tt) 61 3 refl tt).read
 
-pub slope-spec : {M : Type 1} → statement M
-slope-spec = tie.close (tie.spec sub-dx sub-dy max1-requires away-requires returns)
+pub slope_spec : {M : Type 1} → statement M
+slope_spec = tie.close (tie.spec overflow_sub-dx overflow_sub-dy max1-requires away-requires returns)
