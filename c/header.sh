@@ -18,7 +18,7 @@ header_text() { grep -v '^#' include/writeback.h | tr '\n' ' ' | sed -E 's,/\*([
 
 # A slice is a pointer and a length.
 rattle_functions() {
-    plain_text crates/exports/src/*.rt | grep -oE '#\[no_mangle\] pub extern "C" fn [^{]* ensures' |
+    plain_text crates/exports/src/*.rt | grep -oE '#\[unsafe\(no_mangle\)\] pub extern "C" fn [^{]* ensures' |
         sed -E 's/.* fn (\w+)\( ?(.*[^ ,]),? ?\) -> (\w+) ensures/\3 \1(\2)/
             s/(\w+): &mut \[(\w+)\]/\2 *\1, usize \1_len/g; s/(\w+): &\[(\w+)\]/const \2 *\1, usize \1_len/g; s/(\w+): (\w+)/\2 \1/g' | c_types
 }

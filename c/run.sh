@@ -8,7 +8,7 @@ cd "$(dirname "$0")"
 room=$(mktemp -d)
 trap 'rm -rf "$room"' EXIT
 ../library.sh
-library=../target/staticlib/libexports.a
+library=../crates/exports/out/libexports.a
 ./stack.sh "$library"
 flags=(-Wall -Wextra -Wpedantic -Werror -O1 -I ../include)
 gcc -std=c11 "${flags[@]}" -o "$room/as_c" test.c recorded.c "$library" -lm

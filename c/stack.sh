@@ -2,7 +2,7 @@
 # The stack that each exported function takes at most: over the archive's code, the bytes that a function pushes and reserves, its return address, and the most
 # of what it calls. It fails on a call that is not to a named function and on recursion; of what is outside the archive, only memcpy and memset are called.
 set -euo pipefail
-archive=${1:-"$(dirname "$0")/../target/staticlib/libexports.a"}
+archive=${1:-"$(dirname "$0")/../crates/exports/out/libexports.a"}
 objdump -dr --no-show-raw-insn "$archive" | awk '
   /^[0-9a-f]+ <.*>:$/ { name = $0; sub(/^[0-9a-f]+ </, "", name); sub(/>:$/, "", name); known[name] = 1; order[++count] = name; next }
   name == "" { next }

@@ -8,11 +8,10 @@ cd "$(dirname "$0")/.."
 closure() {
 awk '
 # ---- names
-# A path of a use line as crate/Module, or "" where it is no file of specs: Rattle·frame.specs.Frame, or of its own crate Rattle·frame·specs.specs.Frame.
+# A path of a use line as crate/Module, or "" where it is no file of specs: Rattle.frame.specs.Frame.
 function module_of(path,    rest) {
-    if (index(path, "Rattle·") != 1) return ""
-    rest = substr(path, length("Rattle·") + 1)
-    sub(/·specs\.specs\./, ".specs.", rest)
+    if (index(path, "Rattle.") != 1) return ""
+    rest = substr(path, length("Rattle.") + 1)
     if (!match(rest, /^[a-z_0-9]+\.specs\.[A-Z][A-Za-z0-9]*$/)) return ""
     sub(/\.specs\./, "/", rest)
     return rest
@@ -36,6 +35,14 @@ function import_line(file, s,    open, path, names, n, i, name) {
     for (i = 1; i <= n; i++) { name = trimmed(part[i]); if (name != "") imported[file, name] = module_of(path) "/" name }
 }
 
+# What crate writeback re-exports: pub use CRATE::NAME; or pub use CRATE::{NAME, NAME};
+function reexported(s,    at, path, names, n, i) {
+    sub(/^ *pub use /, "", s); sub(/;.*/, "", s)
+    at = index(s, "::"); path = substr(s, 1, at + 1); names = substr(s, at + 2); gsub(/[{}]/, "", names)
+    n = split(names, part, ",")
+    for (i = 1; i <= n; i++) if (trimmed(part[i]) != "") public[path trimmed(part[i])] = 1
+}
+
 # What a name in a file stands for: a definition, or "".
 function meaning(file, module, name,    dot, head, d) {
     if ((file, name) in imported) return ((imported[file, name] in defined) ? imported[file, name] : "")
@@ -49,6 +56,9 @@ function meaning(file, module, name,    dot, head, d) {
     return ""
 }
 
+# What a name begins with: the value of a projection, as x of x.mark.
+function head_of_name(name) { sub(/\..*/, "", name); return name }
+
 # Brackets and the like become blanks; a dot behind a name (λ x.) goes, one before it (a projection) stays.
 function spaced(s) { gsub(/[(){};,]|\[|\]|⌜|⌝/, " ", s); gsub(/\. /, " ", s); return " " s " " }
 
@@ -61,7 +71,7 @@ function cite(from, file, module, s,    n, i, d, word, w) {
         if (word[i + 1] == "=") continue
         d = meaning(file, module, w)
         if (d == "" || d == from) continue
-        if ((from, w) in bound) continue
+        if ((from, w) in bound || (from, head_of_name(w)) in bound) continue
         if (!((from, d) in cites)) { cites[from, d] = 1; cited[from] = cited[from] " " d }
     }
 }
@@ -120,7 +130,11 @@ specs {
     if (line ~ /^[ \t]*\/\//) next
     sub(/[ \t]+\/\/ .*$/, "", line)
     if (line ~ /^ghost use /) { import_line(file, line); next }
-    if (crate == "writeback" && line ~ /^pub use /) { sub(/^pub use /, "", line); sub(/;.*/, "", line); public[line] = 1; next }
+    if (crate == "writeback" && (reexport != "" || line ~ /^pub use /)) {
+        reexport = reexport " " line
+        if (line ~ /;/) { reexported(reexport); reexport = "" }
+        next
+    }
     if (line ~ /^impl /) { type = line; sub(/^impl /, "", type); sub(/ *\{.*/, "", type); next }
     if (line ~ /^}/) { type = ""; call = ""; gathering = 0 }
     if (line ~ /^ *(pub )?(extern "C" )?fn /) {
@@ -177,7 +191,7 @@ END {
     }
     root("frame_draw/Outcome/Outcome"); root("frame_emitted/Outcomes/PixelOutcome"); root("frame_emitted/Outcomes/PixelsOutcome")
     root("theorem_calls/Choices/SameButChoices"); root("theorem_calls/Choices/rechosen"); root("theorem_calls/Choices/SameOutcome")
-    root("theorem_secrecy/Runs/Secret"); root("frame/Alike/Alike"); root("theorem_truth/Truth/Truth"); root("theorem_truth/Completed/completed"); root("theorem_truth/Console/consoleAfterAll"); root("frame/Knows/AllKnown")
+    root("theorem_secrecy/Runs/Secret"); root("frame/Alike/Alike"); root("theorem_truth/Truth/Truth"); root("theorem_truth/Completed/completed"); root("theorem_truth/Console/console_after_all"); root("frame/Knows/AllKnown")
     root("frame_pixel/Certain/CertainColors"); root("frame_pixel/Certain/CertainCoverage"); root("frame_pixel/Certain/SameAtEnds")
     root("theorem_values/Table/table"); root("theorem_values/Table/Holds"); root("words_pack/Depth/Within"); root("writeback_pixel/Counted/counted"); root("frame/Loads/ColorKnown"); root("frame/Loads/CoverageKnown"); root("frame/Loads/Loadable")
     for (at = 1; at <= last; at++) { n = split(cited[queue[at]], part, " "); for (i = 1; i <= n; i++) root(part[i]) }
@@ -201,8 +215,8 @@ table() {
     awk -v want="$1" '$1 == want { if (!($2 in names)) order[++n] = $2; names[$2] = names[$2] (names[$2] == "" ? "" : ", ") $3 }
         END { for (i = 1; i <= n; i++) print "| " order[i] " | " names[order[i]] " |" }' <<< "$files"
 }
-if [ -n "$(find crates/*/specs crates/*/src -mindepth 2)" ] || grep -nE '^(ghost )?use .*\{[^}]*$' crates/*/specs/*.antt crates/*/src/*.rt >&2; then
-    echo "believed: a folder under specs/ or src/, or a use line that goes on, is not read" >&2
+if [ -n "$(find crates/*/specs crates/*/src -mindepth 2)" ] || grep -nE '^use .*\{[^}]*$' crates/*/specs/*.antt >&2 || grep -nE '^ *ghost use .*\{[^}]*$' crates/*/src/*.rt >&2; then
+    echo "believed: a folder under specs/ or src/, or a use line of definitions that goes on, is not read" >&2
     exit 1
 fi
 files=$(closure)

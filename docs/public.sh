@@ -18,7 +18,7 @@ functions() {
                 name = text; sub(/.*[ ]fn /, "", name); sub(/.*pub fn /, "", name); sub(/\(.*/, "", name)
                 answer = "-"
                 if (match(text, /\) -> [A-Za-z0-9_:]+/)) { answer = substr(text, RSTART + 5, RLENGTH - 5); sub(/.*::/, "", answer) }
-                print crate, type name, answer, (text ~ / requires( [a-z_]+)? \{/ ? "requires" : "total"), (text ~ / ensures( [a-z_]+)? \{/ ? "ensures" : "silent"), (text ~ /(Means|Number) r / ? "means" : "bare")
+                print crate, type name, answer, (text ~ / requires( [a-z_]+)? \{/ ? "requires" : "total"), (text ~ / ensures( [a-z_]+)? \{/ ? "ensures" : "silent"), (text ~ /(_means|_number) result / ? "means" : "bare")
             }' "$crate"/src/*.rt
     done
 }
@@ -31,15 +31,23 @@ loud() {
 }
 [ -z "$(find crates/*/src -mindepth 2)" ] || loud "a folder under src/ is not read"
 [ "$(wc -l <<< "$functions")" = "$(cat crates/*/src/*.rt | grep -cE '^ *pub .*\bfn ')" ] || loud "a public function was not read"
-! grep -vnE '^(//.*|pub use \w+::\w+;)?$' crates/writeback/src/*.rt >&2 || loud "crate writeback has a line that is no plain re-export"
+plain=$(sed 's,//.*,,' crates/writeback/src/*.rt | tr -s '\n ' '  ' | sed 's/; */;\n/g')
+! grep -vnE '^ *(#!\[tactic\(auto\)\] )?(pub use \w+::(\w+|\{ ?\w+(, \w+)*,? ?\});)?$' <<< "$plain" >&2 || loud "crate writeback has an item that is no plain re-export"
+
+# The items that writeback re-exports: CRATE NAME.
+items() {
+    grep -oE 'pub use .*;' <<< "$plain" | sed -E 's/^pub use (\w+)::/\1 /; s/[{},;]/ /g' | while read -r crate names; do
+        for name in $names; do echo "$crate $name"; done
+    done
+}
 while read -r crate name; do
     grep -qE "^pub (fn|struct|enum) $name\b" "crates/$crate/src/lib.rt" || loud "$crate::$name is no function, struct or enum of its crate's root"
-done < <(sed -nE 's/^pub use (\w+)::(\w+);/\1 \2/p' crates/writeback/src/lib.rt)
+done < <(items)
 enums=$(grep -ohE '^pub enum \w+' crates/*/src/*.rt | sed 's/pub enum //' | sort -u)
 
 # The lines of what writeback re-exports: a function by its name, a type by its methods.
 reexported() {
-    sed -nE 's/^pub use (\w+)::(\w+);.*/\1 \2/p' crates/writeback/src/lib.rt | while read -r crate name; do
+    items | while read -r crate name; do
         awk -v crate="$crate" -v name="$name" '$1 == crate && ($2 == name || index($2, name "::") == 1)' <<< "$functions"
     done
 }

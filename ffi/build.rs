@@ -13,8 +13,15 @@ fn fail(message: &str) -> ! {
 
 /// The folder of the library, once it is built.
 fn build(root: &Path) -> PathBuf {
-    for part in ["crates", "crates.txt"] {
-        println!("cargo:rerun-if-changed={}", root.join(part).display());
+    println!("cargo:rerun-if-changed={}", root.join("crates.txt").display());
+    // A crate's folder has an out/, too, which each rt writes to.
+    for krate in fs::read_dir(root.join("crates")).unwrap().flatten() {
+        for part in ["src", "specs", "proofs"] {
+            let part = krate.path().join(part);
+            if part.is_dir() {
+                println!("cargo:rerun-if-changed={}", part.display());
+            }
+        }
     }
     let output = match Command::new(root.join("library.sh")).output() {
         Ok(output) => output,
@@ -25,7 +32,7 @@ fn build(root: &Path) -> PathBuf {
     if !output.status.success() {
         fail(&format!("the library cannot be built:\n{}", String::from_utf8_lossy(&output.stderr)));
     }
-    root.join("target/staticlib")
+    root.join("crates/exports/out")
 }
 
 fn main() {

@@ -38,7 +38,7 @@
 //! # Building
 //!
 //! Crate `writeback-sys` (ffi/ of the repository) declares the library's C interface; its build script makes the library by
-//! `rt staticlib exports` at the repository's root and links it. Where the environment variable `LIBRARY` names a folder that
+//! `rt lib` in crates/exports at the repository's root and links it. Where the environment variable `LIBRARY` names a folder that
 //! holds `libexports.a`, that one is linked and the Rattle toolchain is not needed.
 //!
 //! # What is proved, and what is not
