@@ -1,4 +1,6 @@
 // Selector decoding of combiner.rs: which input each slot of a combine word names.
+#![tactic(auto)]
+
 ghost use Rattle.std.specs.Prelude.{◌≡◌};
 ghost use Rattle.combiner_inputs.specs.Combine.{select, color_a, color_b, color_c, color_d, alpha_abd, alpha_c, combine_of};
 ghost use Rattle.combiner_inputs.specs.Cycles.{cycle_of};

@@ -1,4 +1,6 @@
 // Fields of a word, taken out by a shift and a mask, and the number of ones of a byte.
+#![tactic(auto)]
+
 ghost use Rattle.std.specs.Prelude.{◌≡◌, ◌<◌};
 ghost use Rattle.num_bits.specs.Field.{field};
 ghost use Rattle.num_bits.specs.Ones.{ones_of};

@@ -1,5 +1,7 @@
 // Floats: clamping, order, finiteness, and the whole numbers that the Rust's floor, ceil, round and saturating casts give.
 // Every public function is total on every bit pattern. Tests are strict (<, >), so that a NaN falls into the last arm.
+#![tactic(auto)]
+
 ghost use Rattle.std.specs.Prelude.{◌≡◌, cond, false, ◌*◌, ◌≤◌};
 ghost use Rattle.std.specs.Float.Ieee.{lt, neg};
 ghost use Rattle.std.specs.Float.Ieee.Exact.{HasValue};

@@ -1,5 +1,6 @@
 // The state that a draw carries: the decoded render mode (hle/blender.rs) and the combiner uniform (render/mod.rs), with
 // every field of the Rust's. Few of them are looked at; all of them belong to a draw.
+#![tactic(auto)]
 
 // Red, green, blue and alpha.
 #[repr(C)]

@@ -4,7 +4,6 @@ use mathlib.Core.Path.{sym, ap, ◌∙◌}
 use mathlib.Core.Bool.{Bool}
 use lib.Dec.{lit≤}
 use borrow.Author.Rules.{rules}
-use borrow.Author.Tests.{not-true, not-false}
 use Rattle.combiner_inputs.specs.declared.ColorIn.TheVariants as color
 use Rattle.combiner_inputs.specs.declared.AlphaIn.TheVariants as alpha
 use Rattle.combiner_inputs.specs.Combine.{select, color_a, color_b, color_c, color_d, alpha_abd, alpha_c, cycle0, cycle1}
