@@ -1,3 +1,5 @@
+#![tactic(auto)]
+
 // The float side of a triangle (writeback.rs): which vertices are in range, which triangles are culled, the order of the
 // vertices from the top down, and the colour at a pixel. Each operation is rounded once to an f32, in the Rust's order.
 ghost use Rattle.std.specs.Prelude.{◌≡◌, ◌<◌};
@@ -10,7 +12,7 @@ use state::Rgba;
 pub mod row; // the colours of a row's pixels
 
 // A position in pixels and a colour.
-#[derive(Drop)]
+#[derive(Clone, Copy)]
 pub struct Vertex {
     pub x: f32,
     pub y: f32,

@@ -7,7 +7,7 @@ use crate::Vertex;
 use state::Rgba;
 
 // `edge` from one vertex to another, on a row: level - rise * (px - x).
-#[derive(Drop)]
+#[derive(Clone, Copy)]
 pub struct Line {
     pub level: f32,
     pub rise: f32,
@@ -15,7 +15,7 @@ pub struct Line {
 }
 
 // A triangle's colours on a row: for each vertex the line across from it and its colour, and what the terms are divided by.
-#[derive(Drop)]
+#[derive(Clone, Copy)]
 pub struct ShadeRow {
     pub line_a: Line,
     pub line_b: Line,

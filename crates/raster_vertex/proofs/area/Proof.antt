@@ -9,5 +9,5 @@ edge-requires c κs = search rules
 returns : tie.Need-returns
 returns c = c.edge.ensures
 
-pub area-spec : {M : Type 1} → statement M
-area-spec = tie.close (tie.spec edge-requires returns)
+pub area_spec : {M : Type 1} → statement M
+area_spec = tie.close (tie.spec edge-requires returns)

@@ -5,36 +5,36 @@ use Rattle.raster_vertex.specs.Sorted.{at_or_before}
 use Rattle.raster_vertex.proofs.at_or_before.Statement.{statement}
 use Rattle.raster_vertex.proofs.at_or_before.Tie as tie
 
-le-total-requires : tie.Need-le-total-requires
-le-total-requires c κs = search rules
+le_total-requires : tie.Need-le_total-requires
+le_total-requires c κs = search rules
 
-le-total-requires-2 : tie.Need-le-total-requires-2
-le-total-requires-2 c κs = search rules
+le_total-requires-then-le_total : tie.Need-le_total-requires-then-le_total
+le_total-requires-then-le_total c κs = search rules
 
-le-total-requires-3 : tie.Need-le-total-requires-3
-le-total-requires-3 c κs = search rules
+le_total-requires-then-le_total-2 : tie.Need-le_total-requires-then-le_total-2
+le_total-requires-then-le_total-2 c κs = search rules
+
+returns-then-le_total-2 : tie.Need-returns-then-le_total-2
+unfolding at_or_before
+returns-then-le_total-2 c =
+    c.le_total-then-le_total-2.ensures
+    ∙ simp (sym c.le_total.ensures ∙ c.if-le_total.true, sym c.le_total-then-le_total.ensures ∙ c.if-le_total-2.true)
+
+returns-then-le_total : tie.Need-returns-then-le_total
+unfolding at_or_before
+returns-then-le_total c = simp (sym c.le_total.ensures ∙ c.if-le_total.true, sym c.le_total-then-le_total.ensures ∙ c.if-le_total-2.false)
 
 returns : tie.Need-returns
 unfolding at_or_before
-returns c =
-    c.le-total3.ensures
-    ∙ simp (sym c.before.before.before.before.le_total.ensures ∙ c.before.before.before.if1.true, sym c.before.before.le-total2.ensures ∙ c.before.if2.true)
+returns c = simp (sym c.le_total.ensures ∙ c.if-le_total.false)
 
-returns-2 : tie.Need-returns-2
-unfolding at_or_before
-returns-2 c = simp (sym c.before.before.before.le_total.ensures ∙ c.before.before.if1.true, sym c.before.le-total2.ensures ∙ c.if2.false)
-
-returns-3 : tie.Need-returns-3
-unfolding at_or_before
-returns-3 c = simp (sym c.before.le_total.ensures ∙ c.if1.false)
-
-pub at-or-before-spec : {M : Type 1} → statement M
-at-or-before-spec =
+pub at_or_before_spec : {M : Type 1} → statement M
+at_or_before_spec =
     tie.close
     (tie.spec
-    le-total-requires
-    le-total-requires-2
-    le-total-requires-3
-    returns
-    returns-2
-    returns-3)
+    le_total-requires
+    le_total-requires-then-le_total
+    le_total-requires-then-le_total-2
+    returns-then-le_total-2
+    returns-then-le_total
+    returns)

@@ -2,11 +2,11 @@
 use Rattle.raster_vertex.proofs.contains.Statement.{statement}
 use Rattle.raster_vertex.proofs.contains.Tie as tie
 
-returns : tie.Need-returns
-returns c = simp c.if1.true
+returns-then-low-x : tie.Need-returns-then-low-x
+returns-then-low-x c = simp c.if-low-x.true
 
-returns-2 : tie.Need-returns-2
-returns-2 c = simp c.if1.false
+returns-else-low-x : tie.Need-returns-else-low-x
+returns-else-low-x c = simp c.if-low-x.false
 
-pub contains-spec : {M : Type 1} → statement M
-contains-spec = tie.close (tie.spec returns returns-2)
+pub contains_spec : {M : Type 1} → statement M
+contains_spec = tie.close (tie.spec returns-then-low-x returns-else-low-x)

@@ -10,12 +10,12 @@ use Rattle.raster_vertex.proofs.culled.Tie as tie
 area-requires : tie.Need-area-requires
 area-requires c κs = search rules
 
-returns : tie.Need-returns
+returns-then-cull : tie.Need-returns-then-cull
 unfolding of_bits
-returns c = λ i. sym c.before.if1.true i && le f0 (c.area.ensures i)
+returns-then-cull c = λ i. sym c.if-cull.true i && le f0 (c.area.ensures i)
 
-returns-2 : tie.Need-returns-2
-returns-2 c = c.if1.false ∙ simp c.if1.false
+returns-else-cull : tie.Need-returns-else-cull
+returns-else-cull c = c.if-cull.false ∙ simp c.if-cull.false
 
-pub culled-spec : {M : Type 1} → statement M
-culled-spec = tie.close (tie.spec area-requires returns returns-2)
+pub culled_spec : {M : Type 1} → statement M
+culled_spec = tie.close (tie.spec area-requires returns-then-cull returns-else-cull)

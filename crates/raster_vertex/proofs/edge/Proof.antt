@@ -8,5 +8,5 @@ returns : tie.Need-returns
 unfolding edge_of
 returns c = refl
 
-pub edge-spec : {M : Type 1} → statement M
-edge-spec = tie.close (tie.spec returns)
+pub edge_spec : {M : Type 1} → statement M
+edge_spec = tie.close (tie.spec returns)

@@ -7,14 +7,14 @@ use Rattle.raster_vertex.proofs.Rows.{row_shade}
 use Rattle.raster_vertex.proofs.shade.Statement.{statement}
 use Rattle.raster_vertex.proofs.shade.Tie as tie
 
-cast-shade-row : tie.Need-overflow-cast-shade-row
-cast-shade-row c = search rules
+overflow_cast-y : tie.Need-overflow_cast-y
+overflow_cast-y c = search rules
 
-shade-row-requires : tie.Need-shade-row-requires
-shade-row-requires c κs = search rules
+shade_row-requires : tie.Need-shade_row-requires
+shade_row-requires c κs = search rules
 
-cast-at : tie.Need-overflow-cast-at
-cast-at c = search rules
+overflow_cast-x : tie.Need-overflow_cast-x
+overflow_cast-x c = search rules
 
 at-requires : tie.Need-at-requires
 at-requires c κs = search rules
@@ -22,7 +22,7 @@ at-requires c κs = search rules
 returns : tie.Need-returns
 returns c =
     let s = c.before.before in
-    c.at.ensures ∙ ap (λ (row : ShadeRow). shade_on row s.args.x) c.before.shade-row.ensures ∙ row_shade s.args.v s.args.x s.args.y
+    c.at.ensures ∙ ap (λ (row : ShadeRow). shade_on row s.args.x) c.shade_row.ensures ∙ row_shade s.args.v s.args.x s.args.y
 
-pub shade-spec : {M : Type 1} → statement M
-shade-spec = tie.close (tie.spec cast-shade-row shade-row-requires cast-at at-requires returns)
+pub shade_spec : {M : Type 1} → statement M
+shade_spec = tie.close (tie.spec overflow_cast-y shade_row-requires overflow_cast-x at-requires returns)

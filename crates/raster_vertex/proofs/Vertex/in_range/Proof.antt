@@ -8,16 +8,16 @@ use Rattle.raster_vertex.proofs.Vertex.in_range.Tie as tie
 contains-requires : tie.Need-contains-requires
 contains-requires c κs = search rules
 
-contains-requires-2 : tie.Need-contains-requires-2
-contains-requires-2 c κs = search rules
+contains-requires-then-contains : tie.Need-contains-requires-then-contains
+contains-requires-then-contains c κs = search rules
 
-returns : tie.Need-returns
+returns-then-contains : tie.Need-returns-then-contains
 unfolding of_bits neg
-returns c = c.contains2.ensures ∙ simp (sym c.before.before.contains.ensures ∙ c.before.if1.true)
+returns-then-contains c = c.contains-then-contains.ensures ∙ simp (sym c.contains.ensures ∙ c.if-contains.true)
 
-returns-2 : tie.Need-returns-2
+returns-else-contains : tie.Need-returns-else-contains
 unfolding of_bits neg
-returns-2 c = c.if1.false ∙ simp (sym c.before.contains.ensures ∙ c.if1.false)
+returns-else-contains c = c.if-contains.false ∙ simp (sym c.contains.ensures ∙ c.if-contains.false)
 
-pub in-range-spec : {M : Type 1} → statement M
-in-range-spec = tie.close (tie.spec contains-requires contains-requires-2 returns returns-2)
+pub in_range_spec : {M : Type 1} → statement M
+in_range_spec = tie.close (tie.spec contains-requires contains-requires-then-contains returns-then-contains returns-else-contains)

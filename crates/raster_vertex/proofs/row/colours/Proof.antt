@@ -8,5 +8,5 @@ returns : tie.Need-returns
 unfolding colours_of
 returns c = refl
 
-pub colours-spec : {M : Type 1} → statement M
-colours-spec = tie.close (tie.spec returns)
+pub colours_spec : {M : Type 1} → statement M
+colours_spec = tie.close (tie.spec returns)

@@ -8,5 +8,5 @@ returns : tie.Need-returns
 unfolding line_of
 returns c = refl
 
-pub line-between-spec : {M : Type 1} → statement M
-line-between-spec = tie.close (tie.spec returns)
+pub line_between_spec : {M : Type 1} → statement M
+line_between_spec = tie.close (tie.spec returns)

@@ -7,27 +7,27 @@ use lib.Ieee.{in_float}
 use Rattle.raster_vertex.proofs.row.shade_row.Statement.{statement}
 use Rattle.raster_vertex.proofs.row.shade_row.Tie as tie
 
-array-copy-out-a : tie.Need-array-copy-out-a
-array-copy-out-a c = search rules
+bounds-v-0 : tie.Need-bounds-v-0
+bounds-v-0 c = search rules
 
-array-copy-out-b : tie.Need-array-copy-out-b
-array-copy-out-b c = search rules
+bounds-v-1 : tie.Need-bounds-v-1
+bounds-v-1 c = search rules
 
-array-copy-out-c : tie.Need-array-copy-out-c
-array-copy-out-c c = search rules
+bounds-v-2 : tie.Need-bounds-v-2
+bounds-v-2 c = search rules
 
-int-to-float-py : tie.Need-int-to-float-py
+int_to_float-py : tie.Need-int_to_float-py
 unfolding in_float
-int-to-float-py c = le→leb c.before.before.before.before.args.y (2 ^ 24) (omega arith)
+int_to_float-py c = le→leb c.args.y (2 ^ 24) (omega arith)
 
-line-between-requires : tie.Need-line-between-requires
-line-between-requires c κs = search rules
+line_between-requires : tie.Need-line_between-requires
+line_between-requires c κs = search rules
 
-line-between-requires-2 : tie.Need-line-between-requires-2
-line-between-requires-2 c κs = search rules
+line_between-requires-2 : tie.Need-line_between-requires-2
+line_between-requires-2 c κs = search rules
 
-line-between-requires-3 : tie.Need-line-between-requires-3
-line-between-requires-3 c κs = search rules
+line_between-requires-3 : tie.Need-line_between-requires-3
+line_between-requires-3 c κs = search rules
 
 colours-requires : tie.Need-colours-requires
 colours-requires c κs = search rules
@@ -45,26 +45,26 @@ returns : tie.Need-returns
 returns c =
     λ i.
     record {
-      line_a = c.before.before.before.before.before.before.line-between.ensures i;
-      line_b = c.before.before.before.before.before.line-between2.ensures i;
-      line_c = c.before.before.before.before.line-between3.ensures i;
-      a = c.before.before.before.colours.ensures i;
-      b = c.before.before.colours2.ensures i;
-      c = c.before.colours3.ensures i;
+      line_a = c.line_between.ensures i;
+      line_b = c.line_between-2.ensures i;
+      line_c = c.line_between-3.ensures i;
+      a = c.colours.ensures i;
+      b = c.colours-2.ensures i;
+      c = c.colours-3.ensures i;
       den = c.area.ensures i;
     }
 
-pub shade-row-spec : {M : Type 1} → statement M
-shade-row-spec =
+pub shade_row_spec : {M : Type 1} → statement M
+shade_row_spec =
     tie.close
     (tie.spec
-    array-copy-out-a
-    array-copy-out-b
-    array-copy-out-c
-    int-to-float-py
-    line-between-requires
-    line-between-requires-2
-    line-between-requires-3
+    bounds-v-0
+    bounds-v-1
+    bounds-v-2
+    int_to_float-py
+    line_between-requires
+    line_between-requires-2
+    line_between-requires-3
     colours-requires
     colours-requires-2
     colours-requires-3

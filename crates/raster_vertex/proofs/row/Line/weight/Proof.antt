@@ -8,5 +8,5 @@ returns : tie.Need-returns
 unfolding weight_at
 returns c = refl
 
-pub weight-spec : {M : Type 1} → statement M
-weight-spec = tie.close (tie.spec returns)
+pub weight_spec : {M : Type 1} → statement M
+weight_spec = tie.close (tie.spec returns)

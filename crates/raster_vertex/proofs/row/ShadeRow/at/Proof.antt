@@ -8,25 +8,25 @@ use Rattle.raster_vertex.specs.Row.{weighed_by}
 use Rattle.raster_vertex.proofs.row.ShadeRow.at.Statement.{statement}
 use Rattle.raster_vertex.proofs.row.ShadeRow.at.Tie as tie
 
-int-to-float-px : tie.Need-int-to-float-px
+int_to_float-px : tie.Need-int_to_float-px
 unfolding in_float
-int-to-float-px c = le→leb c.before.args.x (2 ^ 24) (omega arith)
+int_to_float-px c = le→leb c.args.x (2 ^ 24) (omega arith)
 
-weight-requires : tie.Need-weight-requires
-weight-requires c κs = search rules
+weight-wa-requires : tie.Need-weight-wa-requires
+weight-wa-requires c κs = search rules
 
-weight-requires-2 : tie.Need-weight-requires-2
-weight-requires-2 c κs = search rules
+weight-wb-requires : tie.Need-weight-wb-requires
+weight-wb-requires c κs = search rules
 
-weight-requires-3 : tie.Need-weight-requires-3
-weight-requires-3 c κs = search rules
+weight-wc-requires : tie.Need-weight-wc-requires
+weight-wc-requires c κs = search rules
 
 returns : tie.Need-returns
 unfolding weighed_by
 returns c =
     let s = c.before.before.before.before.before.before.before.before.before.before.before.before.before.before.before in
-    let row = s.before.before.before.before.before.before.before.args.self in
-    λ i. weighed_by row.a row.b row.c (s.before.before.weight.ensures i) (s.before.weight2.ensures i) (s.weight3.ensures i) row.den
+    let row = s.args.self in
+    λ i. weighed_by row.a row.b row.c (s.weight-wa.ensures i) (s.weight-wb.ensures i) (s.weight-wc.ensures i) row.den
 
-pub at-spec : {M : Type 1} → statement M
-at-spec = tie.close (tie.spec int-to-float-px weight-requires weight-requires-2 weight-requires-3 returns)
+pub at_spec : {M : Type 1} → statement M
+at_spec = tie.close (tie.spec int_to_float-px weight-wa-requires weight-wb-requires weight-wc-requires returns)
