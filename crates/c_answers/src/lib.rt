@@ -1,4 +1,6 @@
 // The C interface's structs for answers, and the library's answers as these.
+#![tactic(auto)]
+
 ghost use Rattle.std.specs.Prelude.{◌≡◌};
 ghost use Rattle.writeback_pixel.specs.Refusal.{refused};
 ghost use Rattle.writeback_pixel.specs.Calls.{destination_means, answer_means, blend_means, pack_color_means, encode_means};
@@ -13,7 +15,7 @@ use writeback_pixel::{Blended, Encoded, Packed, Stored};
 
 // The number (docs/RULES.md) and the value: a coverage, 1 for yes, a word, or bytes with the first lowest.
 #[repr(C)]
-#[derive(Drop)]
+#[derive(Clone, Copy)]
 pub struct Answer {
     pub number: u32,
     pub value: u32,
@@ -21,7 +23,7 @@ pub struct Answer {
 
 // A colour, if there is one, else zeros.
 #[repr(C)]
-#[derive(Drop)]
+#[derive(Clone, Copy)]
 pub struct ColorAnswer {
     pub some: bool,
     pub rgba: Rgba,
@@ -29,7 +31,7 @@ pub struct ColorAnswer {
 
 // A word, if there is one, else 0.
 #[repr(C)]
-#[derive(Drop)]
+#[derive(Clone, Copy)]
 pub struct StrictAnswer {
     pub some: bool,
     pub word: u16,
@@ -37,7 +39,7 @@ pub struct StrictAnswer {
 
 // A combiner, if there is one, else zeros.
 #[repr(C)]
-#[derive(Drop)]
+#[derive(Clone, Copy)]
 pub struct CombinerAnswer {
     pub some: bool,
     pub combiner: Parts,

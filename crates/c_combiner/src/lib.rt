@@ -1,4 +1,6 @@
 // The C interface's calls on the combiner, over plain values. Crate exports gives them their C names.
+#![tactic(auto)]
+
 ghost use Rattle.std.specs.Prelude.{◌≡◌};
 ghost use Rattle.combiner.specs.Means.{new_call, color_call, strict_call};
 ghost use Rattle.c_types.specs.Convert.{mode_of, combiner_from};

@@ -1,5 +1,7 @@
 // The C interface of a draw, over plain values: whether it is admitted, and what one of its pixels emits. Vertices are six floats each, in the order x, y, red, green, blue,
 // alpha, and one presence byte each; three indices name a triangle. Crate exports gives the calls their C names.
+#![tactic(auto)]
+
 ghost use Rattle.std.specs.Prelude.{◌≡◌, ◌&&◌};
 ghost use Rattle.raster_vertex.specs.Range.{in_range_x, in_range_y};
 ghost use Rattle.raster_pixel.specs.Admitted.{admitted_of};
@@ -14,7 +16,7 @@ use state::Rgba;
 
 // What a draw covers: 0 nothing, 1 triangles, 2 the rectangle with these sides. A kind above 2 is nothing.
 #[repr(C)]
-#[derive(Drop)]
+#[derive(Clone, Copy)]
 pub struct GeometryParts {
     pub kind: u32,
     pub left: f32,
@@ -25,7 +27,7 @@ pub struct GeometryParts {
 
 // What a pixel emits: its sample mask, its combined colour and its shade alpha. A mask of 0 is nothing, with zeros beside it.
 #[repr(C)]
-#[derive(Drop)]
+#[derive(Clone, Copy)]
 pub struct FragmentAnswer {
     pub mask: u32,
     pub rgba: Rgba,

@@ -1,5 +1,7 @@
 // A test entry: what one pixel of a draw emits, worked out by itself. A caller that visits every pixel of the frame inside the scissor, triangle after triangle, row after
 // row, from left to right, sees the pixels that the draw emits, in its order.
+#![tactic(auto)]
+
 ghost use Rattle.std.specs.Prelude.{◌≡◌, ◌<◌};
 ghost use Rattle.c_emitted.specs.Emitted.{emitted_triangle, emitted_indexed, emitted_pixel};
 

@@ -14,7 +14,7 @@ use state::CombinerUniform;
 
 // The number (docs/RULES.md), and an emitted pixel with its mask, zeros where there is none.
 #[repr(C)]
-#[derive(Drop)]
+#[derive(Clone, Copy)]
 pub struct EmittedAnswer {
     pub number: u32,
     pub pixel: u32,
@@ -45,7 +45,7 @@ fn emitted(answer: Emitted) -> EmittedAnswer
 
 // The run's number, how many slots have a pixel, and how many pixels the draw emits.
 #[repr(C)]
-#[derive(Drop)]
+#[derive(Clone, Copy)]
 pub struct ListedAnswer {
     pub number: u32,
     pub listed: u64,

@@ -1,5 +1,7 @@
 // The C interface of the frame, over plain values: a draw, its emitted pixels, a word read and a run of words over three lent slices of colour bytes, coverages and marks. Crate exports
 // gives the calls their C names.
+#![tactic(auto)]
+
 ghost use Rattle.std.specs.Prelude.{◌≡◌, []};
 ghost use Rattle.frame.specs.Lent.{old, new, before, after};
 ghost use Rattle.frame_draw.specs.Draw.{drawn_means, draw_answer, draw_frame};
@@ -31,7 +33,7 @@ pub fn engine_of(number: u8) -> Engine
 
 // The number (docs/RULES.md) and the count of pixels emitted, with repeats.
 #[repr(C)]
-#[derive(Drop)]
+#[derive(Clone, Copy)]
 pub struct DrawnAnswer {
     pub number: u32,
     pub pixels: u64,
@@ -51,7 +53,7 @@ fn drawn(answer: Drawn) -> DrawnAnswer
 
 // The run's own number and how many words it read.
 #[repr(C)]
-#[derive(Drop)]
+#[derive(Clone, Copy)]
 pub struct RanAnswer {
     pub number: u32,
     pub words: u64,

@@ -1,4 +1,6 @@
 // The C interface's calls on selectors and on floats, over plain values. Crate exports gives them their C names.
+#![tactic(auto)]
+
 ghost use Rattle.std.specs.Prelude.{◌≡◌};
 ghost use Rattle.num_float.specs.Whole.{whole, floor, ceil, index_cap};
 ghost use Rattle.combiner_inputs.specs.Combine.{select, color_a, color_b, color_c, color_d, alpha_abd, alpha_c, combine_of};

@@ -1,4 +1,6 @@
 // The C interface's single-pixel calls, over plain values. Crate exports gives them their C names.
+#![tactic(auto)]
+
 ghost use Rattle.std.specs.Prelude.{◌≡◌};
 ghost use Rattle.writeback_pixel.specs.Calls.{destination_call, color_known_call, blend_call, pack_color_call, supported_call, pixel_bytes_call, encode_call};
 ghost use Rattle.c_types.specs.Convert.{mode_of, combiner_from, coverage_of, literal_of, encoding_of, writer_of, bytes_from};

@@ -1,4 +1,6 @@
 // The C interface's structs for a mode, a combiner and selectors, and the library's types from plain values and back.
+#![tactic(auto)]
+
 ghost use Rattle.std.specs.Prelude.{◌≡◌};
 ghost use Rattle.combiner_inputs.specs.Inputs.{color_number, alpha_number};
 ghost use Rattle.c_types.specs.Convert.{blend_class_of, z_mode_of, alpha_compare_of, color_in_of, alpha_in_of, mode_of, cycle_from, numbers_of, combiner_from, parts_of, selectors_of, coverage_of, literal_of, encoding_of, writer_of, bytes_from};
@@ -12,7 +14,7 @@ use words_pack::{FramebufferEncoding, ImageLayout, Literal, Rgba8, Writer};
 // RenderMode, its enums by their numbers in the order of their declarations. A number that an enum lacks stands for its last case: a class above 3 is
 // DualSrc, a z mode above 3 Decal, an alpha_compare above 2 Dither.
 #[repr(C)]
-#[derive(Drop)]
+#[derive(Clone, Copy)]
 pub struct Mode {
     pub cycle_type: u32,
     pub blender_mux: u16,
@@ -39,7 +41,7 @@ pub struct Mode {
 
 // A combiner. The selectors are ca, cb, cc, cd, aa, ab, ac, ad by their numbers: a colour's above 20 is Noise, an alpha's above 9 PrimLodFrac.
 #[repr(C)]
-#[derive(Drop)]
+#[derive(Clone, Copy)]
 pub struct Parts {
     pub selectors: [u8; 8],
     pub prim: Rgba,
@@ -51,7 +53,7 @@ pub struct Parts {
 
 // Both cycles' selectors by their numbers.
 #[repr(C)]
-#[derive(Drop)]
+#[derive(Clone, Copy)]
 pub struct Selectors {
     pub raw_l: u32,
     pub raw_h: u32,

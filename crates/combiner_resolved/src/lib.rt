@@ -1,5 +1,7 @@
 // A combiner resolved once for a draw, so that a pixel looks at no selector: what each pair of selectors names is a constant of the draw or a part of the
 // shade, and one match chooses all four channels of it.
+#![tactic(auto)]
+
 ghost use Rattle.std.specs.Prelude.{◌≡◌};
 ghost use Rattle.combiner_resolved.specs.Resolved.{or_zero, input_by, channels_of, mixed_by, shade_flag, shade_alpha_flag, kind_of, operand_of, resolved_of};
 
@@ -10,7 +12,7 @@ use state::Rgba;
 pub mod shaded; // whether the colour turns on the shade
 
 // Where an operand's colour and its alpha come from. A name of two words says the colour's place first, then alpha's.
-#[derive(Drop)]
+#[derive(Clone, Copy)]
 pub enum Kind {
     Constant, // both from the constant
     ConstantShade, // the constant's colour, the shade's alpha
@@ -21,14 +23,14 @@ pub enum Kind {
 }
 
 // One of the inputs a, b, c and d.
-#[derive(Drop)]
+#[derive(Clone, Copy)]
 pub struct Operand {
     pub kind: Kind,
     pub constant: Rgba,
 }
 
 // Each channel is (a - b) * c + d.
-#[derive(Drop)]
+#[derive(Clone, Copy)]
 pub struct Resolved {
     pub a: Operand,
     pub b: Operand,

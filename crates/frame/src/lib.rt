@@ -1,5 +1,7 @@
 // The lent frame: three slices, of colour bytes, coverages and marks (docs/RULES.md, The frame). A colour or coverage byte is read only where its mark
 // says that it is known, and written only where it then is.
+#![tactic(auto)]
+
 ghost use Rattle.std.specs.Prelude.{◌≡◌, ◌<◌, length};
 ghost use Rattle.frame.specs.Frame.{pixel_at};
 ghost use Rattle.frame.specs.Lent.{old, new, lent, before, after};

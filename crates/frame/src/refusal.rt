@@ -19,7 +19,7 @@ const COVERAGE: u8 = 7;
 const PART: usize = 32;
 
 // What marks and, where every one is marked, coverages tell of number 3. Mixed: no mark is too high, and some coverages are marked and some not.
-#[derive(Drop)]
+#[derive(Clone, Copy)]
 pub enum Finding {
     Good,
     Bad,
@@ -27,7 +27,7 @@ pub enum Finding {
 }
 
 // What marks say: none is too high, none marks a coverage, each marks one.
-#[derive(Drop)]
+#[derive(Clone, Copy)]
 struct Seen {
     low: bool,
     unmarked: bool,

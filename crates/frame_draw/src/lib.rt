@@ -1,4 +1,6 @@
 // A draw over the lent frame (docs/RULES.md, A draw). What it is turned away for is checked before anything is written.
+#![tactic(auto)]
+
 ghost use Rattle.std.specs.Prelude.{◌≡◌, true, ◌≤◌, length};
 ghost use Rattle.raster_pixel.specs.Admitted.{admitted_of};
 ghost use Rattle.raster_pixel.specs.Area.{Sized};
@@ -16,20 +18,20 @@ use state::{CombinerUniform, RenderMode};
 mod refusal; // numbers 4 and 5
 
 // Which engine finds a draw's pixels. They are the same: `Slow` is there to be read, docs/RASTERISER.md.
-#[derive(Drop)]
+#[derive(Clone, Copy)]
 pub enum Engine {
     Fast,
     Slow,
 }
 
-#[derive(Drop)]
+#[derive(Clone, Copy)]
 pub enum Drawn {
     Emitted(u64),
     Refused(u8),
 }
 
 // What numbers 1 to 7 say of a draw: its combiner, or the first that holds.
-#[derive(Drop)]
+#[derive(Clone, Copy)]
 pub enum Accepted {
     With(Combiner),
     Refused(u8),

@@ -1,5 +1,7 @@
 // The pixels that a draw would emit, by number and sample mask: one by its place in the draw, or a run of them. The frame is lent to be read only, for numbers 1 to 3;
 // nothing is drawn.
+#![tactic(auto)]
+
 ghost use Rattle.std.specs.Prelude.{◌≡◌, ◌+◌, ◌≤◌, min, length, get_or};
 ghost use Rattle.raster_pixel.specs.declared.Geometry.TheVariants.{Triangles};
 ghost use Rattle.raster_pixel.specs.Area.{Sized};
@@ -21,7 +23,7 @@ use raster_pixel::{Geometry, Scissor};
 use state::{CombinerUniform, RenderMode};
 
 // The k-th emitted pixel and its mask; or there is none, or the draw is turned away.
-#[derive(Drop)]
+#[derive(Clone, Copy)]
 pub enum Emitted {
     Pixel(u32, u8),
     Past,
@@ -29,7 +31,7 @@ pub enum Emitted {
 }
 
 // How many slots have a pixel, and how many pixels the draw emits; or why it is turned away.
-#[derive(Drop)]
+#[derive(Clone, Copy)]
 pub enum Listed {
     Pixels(u64, u64),
     Refused(u8),

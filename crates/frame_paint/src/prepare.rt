@@ -12,7 +12,7 @@ use frame_pixel::full::Full;
 use frame_pixel::{Coloring, Colors};
 use state::{RenderMode, Rgba};
 
-#[derive(Drop)]
+#[derive(Clone, Copy)]
 pub struct Paint {
     pub mode: RenderMode,
     pub combiner: Combiner,

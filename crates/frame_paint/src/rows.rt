@@ -19,7 +19,7 @@ use raster_vertex::row::ShadeRow;
 use state::{RenderMode, Rgba};
 
 // A pixel's combined colour and its shade alpha.
-#[derive(Drop)]
+#[derive(Clone, Copy)]
 pub struct Hue {
     pub color: Rgba,
     pub shade_alpha: f32,

@@ -1,4 +1,6 @@
 // The checks of `admitted` (writeback.rs) on three vertices: which vertex an index names, for check 1, and checks 2 to 6.
+#![tactic(auto)]
+
 ghost use Rattle.std.specs.Prelude.{◌≡◌, not};
 ghost use Rattle.std.specs.Float.Ieee.{ne};
 ghost use Rattle.raster_vertex.specs.Range.{in_range, finite_color};
@@ -11,7 +13,7 @@ use raster_vertex::Vertex;
 use state::Rgba;
 
 // A vertex that an index names, if there is one.
-#[derive(Drop)]
+#[derive(Clone, Copy)]
 pub enum Looked {
     There(Vertex),
     Missing,

@@ -1,5 +1,7 @@
 // The pixels that a draw emits, by number and sample mask alone: counted, and listed in two lent slices from one of them on. Nothing is drawn and no colour is worked
 // out; a run of full pixels is passed by its length.
+#![tactic(auto)]
+
 ghost use Rattle.std.specs.Prelude.{◌≡◌, ◌/◌, ◌<◌, length};
 ghost use Rattle.raster_pixel.specs.declared.Geometry.TheVariants.{Triangles};
 ghost use Rattle.raster_edges.specs.Limits.{TameTri};

@@ -4,7 +4,7 @@ ghost use Rattle.raster_emitted.specs.Shapes.{run_masks};
 ghost use Rattle.raster_emitted.specs.Listed.{ReadyIn, ListedIn, FilledIn};
 
 // Which pixels of a draw are asked for: pixel first + i goes to slot i. None is counted from limit on.
-#[derive(Drop)]
+#[derive(Clone, Copy)]
 pub struct Window {
     pub first: u64,
     pub limit: u64,

@@ -1,5 +1,7 @@
 // `admitted` and the pieces of `rasterize` below its loops (writeback.rs): which triangles a draw may have, the pixels inside a
 // scissor, and which of them are shown.
+#![tactic(auto)]
+
 ghost use Rattle.std.specs.Prelude.{◌≡◌, map, ◌+◌, ◌*◌, ◌<◌, min, length};
 ghost use Rattle.raster_pixel.specs.Area.{Sized, area_of};
 ghost use Rattle.raster_pixel.specs.Admitted.{triangle_at, failing, admitted_of};
@@ -14,7 +16,7 @@ pub mod row; // the parts of a row
 
 // In pixels.
 #[repr(C)]
-#[derive(Drop)]
+#[derive(Clone, Copy)]
 pub struct Scissor {
     pub left: u32,
     pub top: u32,
@@ -23,7 +25,7 @@ pub struct Scissor {
 }
 
 // The part of a frame inside a scissor: columns left up to right and rows top up to bottom, right and bottom left out.
-#[derive(Drop)]
+#[derive(Clone, Copy)]
 pub struct Area {
     pub left: u32,
     pub top: u32,
@@ -32,7 +34,7 @@ pub struct Area {
 }
 
 // What a draw covers: a rectangle carries its left, top, right and bottom sides.
-#[derive(Drop)]
+#[derive(Clone, Copy)]
 pub enum Geometry {
     Nothing,
     Triangles,
@@ -40,14 +42,14 @@ pub enum Geometry {
 }
 
 // A triangle's vertices, if all are there.
-#[derive(Drop)]
+#[derive(Clone, Copy)]
 pub enum Three {
     Vertices(Vertex, Vertex, Vertex),
     Absent,
 }
 
 // What a pixel emits: its sample mask, its combined colour and its shade alpha.
-#[derive(Drop)]
+#[derive(Clone, Copy)]
 pub enum Fragment {
     Empty,
     Covered(u8, f32, f32, f32, f32, f32),

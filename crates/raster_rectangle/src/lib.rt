@@ -1,5 +1,7 @@
 // The rectangle of writeback.rs `rasterize`: whether a quarter of a pixel lies between two of its sides, and its edges as those of a triangle. A side is any f32, a NaN or an
 // infinity too.
+#![tactic(auto)]
+
 ghost use Rattle.std.specs.Prelude.{◌≡◌, ◌+◌, ◌*◌, ◌<◌, ◌≤◌};
 ghost use Rattle.raster_rectangle.specs.Rectangle.{quarters, within_of};
 ghost use Rattle.raster_rectangle.specs.Outline.{Before, From, upright_of, Outlines};
@@ -7,7 +9,7 @@ ghost use Rattle.raster_rectangle.specs.Outline.{Before, From, upright_of, Outli
 use raster_edge::Edge;
 use raster_edges::Tri;
 
-#[derive(Drop)]
+#[derive(Clone, Copy)]
 pub struct Sides {
     pub left: f32,
     pub top: f32,

@@ -1,5 +1,7 @@
 // The pixels of a draw on the lent frame (writeback.rs, `rasterize`): those of a rectangle, or of the triangles of a list. Each call draws its part and answers how
 // many pixels that emitted.
+#![tactic(auto)]
+
 ghost use Rattle.std.specs.Prelude.{◌≡◌, true, ◌≤◌, length};
 ghost use Rattle.raster_pixel.specs.Admitted.{admitted_of};
 ghost use Rattle.raster_pixel.specs.Area.{Sized};

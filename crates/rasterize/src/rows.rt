@@ -15,7 +15,7 @@ use raster_vertex::row::{Line, ShadeRow};
 use state::Rgba;
 
 // How a shape's pixels get their colours: all have the paint's own, or each has its own shade, between those of three vertices.
-#[derive(Drop)]
+#[derive(Clone, Copy)]
 pub enum Shading {
     Flat,
     Smooth(Vertex, Vertex, Vertex),

@@ -2,6 +2,8 @@
 // tests the pixel's eight samples one by one, and emits it. It works out no bounds, no runs of full pixels and no colours ahead; of a triangle only the edges are made
 // first. Crate rasterize emits the same pixels in the same order with such shortcuts; this one is there to be read beside the console's papers. docs/RASTERISER.md
 // walks through it on one triangle.
+#![tactic(auto)]
+
 ghost use Rattle.std.specs.Prelude.{◌≡◌, true, cond, ◌/◌, ◌<◌, ◌≤◌, length};
 ghost use Rattle.frame.specs.Lent.{old, lent, before, after};
 ghost use Rattle.frame.specs.Fits.{Fit};
@@ -32,7 +34,7 @@ use state::{RenderMode, Rgba};
 const LARGEST: u64 = 18446744073709551615;
 
 // A triangle by its edges and its vertices, sorted from the top down, or a rectangle by its sides. `Nothing` holds no sample.
-#[derive(Drop)]
+#[derive(Clone, Copy)]
 pub enum Shape {
     Nothing,
     Triangle(Tri, Vertex, Vertex, Vertex),
@@ -40,7 +42,7 @@ pub enum Shape {
 }
 
 // What all pixels of a draw share. They are drawn on the frame if `draws`, and those of the window go to the slots.
-#[derive(Drop)]
+#[derive(Clone, Copy)]
 pub struct Walk {
     pub draws: bool,
     pub window: Window,

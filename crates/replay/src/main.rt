@@ -6,6 +6,8 @@
 // The sample, the file stdin beside src/, is what `record answers` writes with its own seed, 640064: plain and hostile
 // arguments for each call, and refused ones where a call refuses. Whole numbers and truth values agree where they are the same;
 // floats agree where they are equal, so 0.0 is -0.0, or both NaN. A line of another form is a disagreement.
+#![tactic(auto)]
+
 mod answers;
 mod calls;
 mod line;
@@ -29,7 +31,7 @@ fn space() -> [u8; SPACE]
 }
 
 // A line's call, CALLS if none has its name, and whether the port agrees.
-#[derive(Drop)]
+#[derive(Clone, Copy)]
 struct Verdict {
     call: usize,
     agrees: bool,

@@ -5,7 +5,7 @@ ghost use Rattle.std.specs.Prelude.{◌≡◌, ◌<◌, ◌≤◌, length};
 pub const CALLS: usize = 25;
 
 // How many words of arguments and of answers a call has.
-#[derive(Drop)]
+#[derive(Clone, Copy)]
 pub struct Shape {
     pub arguments: usize,
     pub answers: usize,

@@ -8,7 +8,7 @@ use replay_values::line::Words;
 use replay_values::values::{byte, float, index, mode_within, render_mode, truth, uniform, within};
 
 // Whether the answers are the same, and the position behind the line's, 0 for a line of another form.
-#[derive(Drop)]
+#[derive(Clone, Copy)]
 pub struct Outcome {
     pub agrees: bool,
     pub next: usize,
@@ -78,7 +78,7 @@ fn geometry(w: &Words) -> GeometryParts {
 }
 
 // How many floats, presence flags and indices a draw has, and the position behind its arguments, 0 for a line of another form.
-#[derive(Drop)]
+#[derive(Clone, Copy)]
 struct Lists {
     floats: usize,
     flags: usize,

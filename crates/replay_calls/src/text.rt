@@ -7,21 +7,21 @@ use replay_values::line::{Word, Words, digit};
 use replay_values::values::{byte, float, index};
 
 // A number, and the position behind it.
-#[derive(Drop)]
+#[derive(Clone, Copy)]
 pub struct Read {
     pub value: u32,
     pub next: usize,
 }
 
 // How many elements a list has, and the position behind that, or behind the whole list.
-#[derive(Drop)]
+#[derive(Clone, Copy)]
 pub struct Length {
     pub count: usize,
     pub next: usize,
 }
 
 // How many bytes a string has, or words a list, whether they are just those that a slice had, and the position behind it.
-#[derive(Drop)]
+#[derive(Clone, Copy)]
 pub struct Slice {
     pub count: usize,
     pub same: bool,

@@ -10,6 +10,8 @@
 //
 // The sample, the file stdin beside src/, is what `record lists` writes with its own seed. After each call, also one that draws
 // nothing, every byte of the three slices is held against the recorded ones, which the next call of the list works on.
+#![tactic(auto)]
+
 mod tally;
 
 ghost use Rattle.std.specs.Prelude.{◌≡◌, ◌≤◌, length};
@@ -32,7 +34,7 @@ fn space() -> [u8; SPACE]
 }
 
 // A list's lines end before `at`; and the counts.
-#[derive(Drop)]
+#[derive(Clone, Copy)]
 struct Listed {
     at: usize,
     tally: Tally,

@@ -1,6 +1,6 @@
 // How many calls there were and how many of them agree, and what is printed of them.
 
-#[derive(Drop)]
+#[derive(Clone, Copy)]
 pub struct Tally {
     pub engine: u8, // that is asked, by its number in the C interface
     pub recorded: usize, // where the text has the slices as the last call left them

@@ -1,3 +1,5 @@
 // What the lines of recorded answers are made of, for the programs that replay them.
+#![tactic(auto)]
+
 pub mod line; // words
 pub mod values; // and what they stand for

@@ -4,7 +4,7 @@ ghost use Rattle.std.specs.Prelude.{◌+◌, ◌*◌, ◌≤◌, length};
 // The arguments and the answers of a call. No call has more.
 pub type Words = [u32; 128];
 
-#[derive(Drop)]
+#[derive(Clone, Copy)]
 pub enum Word {
     Value(u32),
     Missing,

@@ -1,5 +1,7 @@
 // A word read from the lent frame: the word of one pixel, with numbers 1 to 3 and 8 to 10. A colour byte is loaded after number 10 let it through, a coverage only
 // where it is marked.
+#![tactic(auto)]
+
 ghost use Rattle.std.specs.Prelude.{◌≡◌, ◌<◌, ◌≤◌};
 ghost use Rattle.frame.specs.Frame.{pixel_at};
 ghost use Rattle.frame.specs.Lent.{lent, before};
@@ -8,7 +10,7 @@ ghost use Rattle.words_read.specs.Read.{readable, writer_by, word_by, read_args,
 
 use words_pack::{Bytes2, FramebufferEncoding, ImageLayout, Literal, Rgba8, Writer};
 
-#[derive(Drop)]
+#[derive(Clone, Copy)]
 pub enum Word {
     Bytes(u8, u8),
     Refused(u8),

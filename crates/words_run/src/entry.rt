@@ -11,7 +11,7 @@ ghost use Rattle.words_run.specs.Entries.{entries_of, Matched, PutIn, WroteIn, a
 use words_pack::{Bytes2, FramebufferEncoding, Rgba8};
 
 // The column and row of a pixel.
-#[derive(Drop)]
+#[derive(Clone, Copy)]
 pub struct Place {
     pub x: usize,
     pub y: usize,

@@ -1,4 +1,6 @@
 // A run of words read from the lent frame in one go: each pixel's answer is that of its single read.
+#![tactic(auto)]
+
 ghost use Rattle.std.specs.Prelude.{◌≡◌, ℕ, ◌+◌, ◌-◌, ◌*◌, ◌<◌, ◌≤◌, min, eqb, length};
 ghost use Rattle.frame.specs.Lent.{old, new, lent, before};
 ghost use Rattle.frame.specs.Checks.{frame_refusal};
@@ -11,7 +13,7 @@ use words_pack::FramebufferEncoding;
 mod entry; // the entries of a run
 
 // How many words a run read, or why it was turned away as a whole.
-#[derive(Drop)]
+#[derive(Clone, Copy)]
 pub enum Run {
     Read(u64),
     Refused(u8),

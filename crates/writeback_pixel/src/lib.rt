@@ -1,4 +1,6 @@
 // The single-pixel calls as a host makes them: each checks what number 11 (docs/RULES.md) names of its arguments, and answers zeros or no where it is turned away.
+#![tactic(auto)]
+
 ghost use Rattle.std.specs.Prelude.{◌≡◌};
 ghost use Rattle.writeback_pixel.specs.Refusal.{mask_ok, coverage_ok, known_ok, width_ok, siz_ok, place_ok, writer_ok, encode_ok, accepted};
 ghost use Rattle.writeback_pixel.specs.Calls.{destination_means, destination_call, answer_means, color_known_call, blend_means, blend_call, pack_color_means, pack_color_call, supported_call, pixel_bytes_means, pixel_bytes_call, encode_means, encode_call};
@@ -8,39 +10,39 @@ use combiner::Combiner;
 use state::{RenderMode, Rgba};
 use words_pack::{FramebufferEncoding, Literal, Rgba8, Writer};
 
-#[derive(Drop)]
+#[derive(Clone, Copy)]
 pub enum Stored {
     Coverage(u8),
     Refused,
 }
 
 // A yes or a no.
-#[derive(Drop)]
+#[derive(Clone, Copy)]
 pub enum Answer {
     Yes,
     No,
     Refused,
 }
 
-#[derive(Drop)]
+#[derive(Clone, Copy)]
 pub enum Blended {
     Bytes(u8, u8, u8, u8),
     Refused,
 }
 
-#[derive(Drop)]
+#[derive(Clone, Copy)]
 pub enum Packed {
     Word(u16),
     Refused,
 }
 
-#[derive(Drop)]
+#[derive(Clone, Copy)]
 pub enum PixelBytes {
     Bytes(usize),
     Refused,
 }
 
-#[derive(Drop)]
+#[derive(Clone, Copy)]
 pub enum Encoded {
     Bytes(u8, u8),
     Refused,
