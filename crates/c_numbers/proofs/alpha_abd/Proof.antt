@@ -4,18 +4,18 @@ use borrow.Author.Rules.{rules}
 use Rattle.c_numbers.proofs.alpha_abd.Statement.{statement}
 use Rattle.c_numbers.proofs.alpha_abd.Tie as tie
 
-alpha-abd-requires : tie.Need-alpha-abd-requires
-alpha-abd-requires c κs = search rules
+alpha_abd-requires : tie.Need-alpha_abd-requires
+alpha_abd-requires c κs = search rules
 
-alpha-number-requires : tie.Need-alpha-number-requires
-alpha-number-requires c κs = search rules
+alpha_number-requires : tie.Need-alpha_number-requires
+alpha_number-requires c κs = search rules
 
-cast-result : tie.Need-overflow-cast-result
-cast-result c = search rules
+overflow_cast-result : tie.Need-overflow_cast-result
+overflow_cast-result c = search rules
 
 returns : tie.Need-returns
-returns c = c.alpha-number.ensures ∙ c.before.alpha-abd.ensures.0
+returns c = c.alpha_number.ensures ∙ c.alpha_abd.ensures.0
 
-pub alpha-abd-spec : {M : Type 1} → statement M
-alpha-abd-spec =
-    tie.close (tie.spec alpha-abd-requires alpha-number-requires cast-result returns)
+pub alpha_abd_spec : {M : Type 1} → statement M
+alpha_abd_spec =
+    tie.close (tie.spec alpha_abd-requires alpha_number-requires overflow_cast-result returns)

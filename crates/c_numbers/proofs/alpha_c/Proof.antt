@@ -4,17 +4,17 @@ use borrow.Author.Rules.{rules}
 use Rattle.c_numbers.proofs.alpha_c.Statement.{statement}
 use Rattle.c_numbers.proofs.alpha_c.Tie as tie
 
-alpha-c-requires : tie.Need-alpha-c-requires
-alpha-c-requires c κs = search rules
+alpha_c-requires : tie.Need-alpha_c-requires
+alpha_c-requires c κs = search rules
 
-alpha-number-requires : tie.Need-alpha-number-requires
-alpha-number-requires c κs = search rules
+alpha_number-requires : tie.Need-alpha_number-requires
+alpha_number-requires c κs = search rules
 
-cast-result : tie.Need-overflow-cast-result
-cast-result c = search rules
+overflow_cast-result : tie.Need-overflow_cast-result
+overflow_cast-result c = search rules
 
 returns : tie.Need-returns
-returns c = c.alpha-number.ensures ∙ c.before.alpha-c.ensures.0
+returns c = c.alpha_number.ensures ∙ c.alpha_c.ensures.0
 
-pub alpha-c-spec : {M : Type 1} → statement M
-alpha-c-spec = tie.close (tie.spec alpha-c-requires alpha-number-requires cast-result returns)
+pub alpha_c_spec : {M : Type 1} → statement M
+alpha_c_spec = tie.close (tie.spec alpha_c-requires alpha_number-requires overflow_cast-result returns)

@@ -6,14 +6,14 @@ use borrow.Author.Rules.{rules}
 use Rattle.c_numbers.proofs.ceil_index.Statement.{statement}
 use Rattle.c_numbers.proofs.ceil_index.Tie as tie
 
-ceil-index-requires : tie.Need-ceil-index-requires
-ceil-index-requires c κs = search rules
+ceil_index-requires : tie.Need-ceil_index-requires
+ceil_index-requires c κs = search rules
 
-cast-result : tie.Need-overflow-cast-result
-cast-result c = omega (arith, whole_le ceil index_cap c.before.args.x)
+overflow_cast-result : tie.Need-overflow_cast-result
+overflow_cast-result c = omega (arith, whole_le ceil index_cap c.args.x)
 
 returns : tie.Need-returns
 returns c = search rules
 
-pub ceil-index-spec : {M : Type 1} → statement M
-ceil-index-spec = tie.close (tie.spec ceil-index-requires cast-result returns)
+pub ceil_index_spec : {M : Type 1} → statement M
+ceil_index_spec = tie.close (tie.spec ceil_index-requires overflow_cast-result returns)

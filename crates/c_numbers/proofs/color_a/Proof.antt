@@ -4,17 +4,17 @@ use borrow.Author.Rules.{rules}
 use Rattle.c_numbers.proofs.color_a.Statement.{statement}
 use Rattle.c_numbers.proofs.color_a.Tie as tie
 
-color-a-requires : tie.Need-color-a-requires
-color-a-requires c κs = search rules
+color_a-requires : tie.Need-color_a-requires
+color_a-requires c κs = search rules
 
-color-number-requires : tie.Need-color-number-requires
-color-number-requires c κs = search rules
+color_number-requires : tie.Need-color_number-requires
+color_number-requires c κs = search rules
 
-cast-result : tie.Need-overflow-cast-result
-cast-result c = search rules
+overflow_cast-result : tie.Need-overflow_cast-result
+overflow_cast-result c = search rules
 
 returns : tie.Need-returns
-returns c = c.color-number.ensures ∙ c.before.color-a.ensures.0
+returns c = c.color_number.ensures ∙ c.color_a.ensures.0
 
-pub color-a-spec : {M : Type 1} → statement M
-color-a-spec = tie.close (tie.spec color-a-requires color-number-requires cast-result returns)
+pub color_a_spec : {M : Type 1} → statement M
+color_a_spec = tie.close (tie.spec color_a-requires color_number-requires overflow_cast-result returns)

@@ -4,17 +4,17 @@ use borrow.Author.Rules.{rules}
 use Rattle.c_numbers.proofs.color_b.Statement.{statement}
 use Rattle.c_numbers.proofs.color_b.Tie as tie
 
-color-b-requires : tie.Need-color-b-requires
-color-b-requires c κs = search rules
+color_b-requires : tie.Need-color_b-requires
+color_b-requires c κs = search rules
 
-color-number-requires : tie.Need-color-number-requires
-color-number-requires c κs = search rules
+color_number-requires : tie.Need-color_number-requires
+color_number-requires c κs = search rules
 
-cast-result : tie.Need-overflow-cast-result
-cast-result c = search rules
+overflow_cast-result : tie.Need-overflow_cast-result
+overflow_cast-result c = search rules
 
 returns : tie.Need-returns
-returns c = c.color-number.ensures ∙ c.before.color-b.ensures.0
+returns c = c.color_number.ensures ∙ c.color_b.ensures.0
 
-pub color-b-spec : {M : Type 1} → statement M
-color-b-spec = tie.close (tie.spec color-b-requires color-number-requires cast-result returns)
+pub color_b_spec : {M : Type 1} → statement M
+color_b_spec = tie.close (tie.spec color_b-requires color_number-requires overflow_cast-result returns)

@@ -4,17 +4,17 @@ use borrow.Author.Rules.{rules}
 use Rattle.c_numbers.proofs.color_c.Statement.{statement}
 use Rattle.c_numbers.proofs.color_c.Tie as tie
 
-color-c-requires : tie.Need-color-c-requires
-color-c-requires c κs = search rules
+color_c-requires : tie.Need-color_c-requires
+color_c-requires c κs = search rules
 
-color-number-requires : tie.Need-color-number-requires
-color-number-requires c κs = search rules
+color_number-requires : tie.Need-color_number-requires
+color_number-requires c κs = search rules
 
-cast-result : tie.Need-overflow-cast-result
-cast-result c = search rules
+overflow_cast-result : tie.Need-overflow_cast-result
+overflow_cast-result c = search rules
 
 returns : tie.Need-returns
-returns c = c.color-number.ensures ∙ c.before.color-c.ensures.0
+returns c = c.color_number.ensures ∙ c.color_c.ensures.0
 
-pub color-c-spec : {M : Type 1} → statement M
-color-c-spec = tie.close (tie.spec color-c-requires color-number-requires cast-result returns)
+pub color_c_spec : {M : Type 1} → statement M
+color_c_spec = tie.close (tie.spec color_c-requires color_number-requires overflow_cast-result returns)

@@ -4,17 +4,17 @@ use borrow.Author.Rules.{rules}
 use Rattle.c_numbers.proofs.color_d.Statement.{statement}
 use Rattle.c_numbers.proofs.color_d.Tie as tie
 
-color-d-requires : tie.Need-color-d-requires
-color-d-requires c κs = search rules
+color_d-requires : tie.Need-color_d-requires
+color_d-requires c κs = search rules
 
-color-number-requires : tie.Need-color-number-requires
-color-number-requires c κs = search rules
+color_number-requires : tie.Need-color_number-requires
+color_number-requires c κs = search rules
 
-cast-result : tie.Need-overflow-cast-result
-cast-result c = search rules
+overflow_cast-result : tie.Need-overflow_cast-result
+overflow_cast-result c = search rules
 
 returns : tie.Need-returns
-returns c = c.color-number.ensures ∙ c.before.color-d.ensures.0
+returns c = c.color_number.ensures ∙ c.color_d.ensures.0
 
-pub color-d-spec : {M : Type 1} → statement M
-color-d-spec = tie.close (tie.spec color-d-requires color-number-requires cast-result returns)
+pub color_d_spec : {M : Type 1} → statement M
+color_d_spec = tie.close (tie.spec color_d-requires color_number-requires overflow_cast-result returns)

@@ -5,14 +5,14 @@ use borrow.Author.Rules.{rules}
 use Rattle.c_numbers.proofs.decode_combine.Statement.{statement}
 use Rattle.c_numbers.proofs.decode_combine.Tie as tie
 
-decode-combine-requires : tie.Need-decode-combine-requires
-decode-combine-requires c κs = search rules
+decode_combine-requires : tie.Need-decode_combine-requires
+decode_combine-requires c κs = search rules
 
-selectors-of-requires : tie.Need-selectors-of-requires
-selectors-of-requires c κs = search rules
+selectors_of-requires : tie.Need-selectors_of-requires
+selectors_of-requires c κs = search rules
 
 returns : tie.Need-returns
-returns c = c.selectors-of.ensures ∙ ap selectors_of c.before.decode-combine.ensures
+returns c = c.selectors_of.ensures ∙ ap selectors_of c.decode_combine.ensures
 
-pub decode-combine-spec : {M : Type 1} → statement M
-decode-combine-spec = tie.close (tie.spec decode-combine-requires selectors-of-requires returns)
+pub decode_combine_spec : {M : Type 1} → statement M
+decode_combine_spec = tie.close (tie.spec decode_combine-requires selectors_of-requires returns)

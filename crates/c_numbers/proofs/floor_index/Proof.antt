@@ -6,14 +6,14 @@ use borrow.Author.Rules.{rules}
 use Rattle.c_numbers.proofs.floor_index.Statement.{statement}
 use Rattle.c_numbers.proofs.floor_index.Tie as tie
 
-floor-index-requires : tie.Need-floor-index-requires
-floor-index-requires c κs = search rules
+floor_index-requires : tie.Need-floor_index-requires
+floor_index-requires c κs = search rules
 
-cast-result : tie.Need-overflow-cast-result
-cast-result c = omega (arith, whole_le floor index_cap c.before.args.x)
+overflow_cast-result : tie.Need-overflow_cast-result
+overflow_cast-result c = omega (arith, whole_le floor index_cap c.args.x)
 
 returns : tie.Need-returns
 returns c = search rules
 
-pub floor-index-spec : {M : Type 1} → statement M
-floor-index-spec = tie.close (tie.spec floor-index-requires cast-result returns)
+pub floor_index_spec : {M : Type 1} → statement M
+floor_index_spec = tie.close (tie.spec floor_index-requires overflow_cast-result returns)

@@ -5,11 +5,11 @@ use Rattle.c_types.proofs.Cases.{arm, default}
 use Rattle.c_types.proofs.alpha_compare.Statement.{statement}
 use Rattle.c_types.proofs.alpha_compare.Tie as tie
 
-pub alpha-compare-spec : {M : Type 1} → statement M
+pub alpha_compare_spec : {M : Type 1} → statement M
 unfolding alpha_compare_of
-alpha-compare-spec =
+alpha_compare_spec =
     tie.close
     (tie.spec
-    (λ c. arm alpha_compares Dither c.before.args.number c.match.keys1)
-    (λ c. arm alpha_compares Dither c.before.args.number c.match.keys2)
-    (λ c. default alpha_compares Dither c.before.args.number c.match.rest))
+    (λ c. arm alpha_compares Dither c.args.number c.in-0.is)
+    (λ c. arm alpha_compares Dither c.args.number c.in-1.is)
+    (λ c. default alpha_compares Dither c.args.number c.in_default.in_default-own.rest))

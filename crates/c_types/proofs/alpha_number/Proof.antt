@@ -5,9 +5,9 @@ use Rattle.combiner_inputs.specs.Inputs.{alpha_number}
 use Rattle.c_types.proofs.alpha_number.Statement.{statement}
 use Rattle.c_types.proofs.alpha_number.Tie as tie
 
-pub alpha-number-spec : {M : Type 1} → statement M
+pub alpha_number_spec : {M : Type 1} → statement M
 unfolding alpha_number
-alpha-number-spec =
+alpha_number_spec =
     tie.close
     (tie.spec
     (λ c. search rules)
@@ -20,13 +20,13 @@ alpha-number-spec =
     (λ c. search rules)
     (λ c. search rules)
     (λ c. search rules)
-    (λ c. sym (ap alpha_number c.enum_told.given.1))
-    (λ c. sym (ap alpha_number c.enum-told2.given.1))
-    (λ c. sym (ap alpha_number c.enum-told3.given.1))
-    (λ c. sym (ap alpha_number c.enum-told4.given.1))
-    (λ c. sym (ap alpha_number c.enum-told5.given.1))
-    (λ c. sym (ap alpha_number c.enum-told6.given.1))
-    (λ c. sym (ap alpha_number c.enum-told7.given.1))
-    (λ c. sym (ap alpha_number c.enum-told8.given.1))
-    (λ c. sym (ap alpha_number c.enum-told9.given.1))
-    (λ c. sym (ap alpha_number c.enum-told10.given.1)))
+    (λ c. sym (ap alpha_number c.in-Combined.is))
+    (λ c. sym (ap alpha_number c.in-Texel0.is))
+    (λ c. sym (ap alpha_number c.in-Primitive.is))
+    (λ c. sym (ap alpha_number c.in-Shade.is))
+    (λ c. sym (ap alpha_number c.in-Environment.is))
+    (λ c. sym (ap alpha_number c.in-Zero.is))
+    (λ c. sym (ap alpha_number c.in-One.is))
+    (λ c. sym (ap alpha_number c.in-Texel1.is))
+    (λ c. sym (ap alpha_number c.in-LodFraction.is))
+    (λ c. sym (ap alpha_number c.in-PrimLodFrac.is)))

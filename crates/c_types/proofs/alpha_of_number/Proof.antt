@@ -5,18 +5,18 @@ use Rattle.c_types.proofs.Cases.{arm, default}
 use Rattle.c_types.proofs.alpha_of_number.Statement.{statement}
 use Rattle.c_types.proofs.alpha_of_number.Tie as tie
 
-pub alpha-of-number-spec : {M : Type 1} → statement M
+pub alpha_of_number_spec : {M : Type 1} → statement M
 unfolding alpha_in_of
-alpha-of-number-spec =
+alpha_of_number_spec =
     tie.close
     (tie.spec
-    (λ c. arm alpha_inputs PrimLodFrac c.before.args.number c.match.keys1)
-    (λ c. arm alpha_inputs PrimLodFrac c.before.args.number c.match.keys2)
-    (λ c. arm alpha_inputs PrimLodFrac c.before.args.number c.match.keys3)
-    (λ c. arm alpha_inputs PrimLodFrac c.before.args.number c.match.keys4)
-    (λ c. arm alpha_inputs PrimLodFrac c.before.args.number c.match.keys5)
-    (λ c. arm alpha_inputs PrimLodFrac c.before.args.number c.match.keys6)
-    (λ c. arm alpha_inputs PrimLodFrac c.before.args.number c.match.keys7)
-    (λ c. arm alpha_inputs PrimLodFrac c.before.args.number c.match.keys8)
-    (λ c. arm alpha_inputs PrimLodFrac c.before.args.number c.match.keys9)
-    (λ c. default alpha_inputs PrimLodFrac c.before.args.number c.match.rest))
+    (λ c. arm alpha_inputs PrimLodFrac c.args.number c.in-0.is)
+    (λ c. arm alpha_inputs PrimLodFrac c.args.number c.in-1.is)
+    (λ c. arm alpha_inputs PrimLodFrac c.args.number c.in-2.is)
+    (λ c. arm alpha_inputs PrimLodFrac c.args.number c.in-3.is)
+    (λ c. arm alpha_inputs PrimLodFrac c.args.number c.in-4.is)
+    (λ c. arm alpha_inputs PrimLodFrac c.args.number c.in-5.is)
+    (λ c. arm alpha_inputs PrimLodFrac c.args.number c.in-6.is)
+    (λ c. arm alpha_inputs PrimLodFrac c.args.number c.in-7.is)
+    (λ c. arm alpha_inputs PrimLodFrac c.args.number c.in-8.is)
+    (λ c. default alpha_inputs PrimLodFrac c.args.number c.in_default.in_default-own.rest))

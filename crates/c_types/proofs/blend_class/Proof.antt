@@ -5,12 +5,12 @@ use Rattle.c_types.proofs.Cases.{arm, default}
 use Rattle.c_types.proofs.blend_class.Statement.{statement}
 use Rattle.c_types.proofs.blend_class.Tie as tie
 
-pub blend-class-spec : {M : Type 1} → statement M
+pub blend_class_spec : {M : Type 1} → statement M
 unfolding blend_class_of
-blend-class-spec =
+blend_class_spec =
     tie.close
     (tie.spec
-    (λ c. arm blend_classes DualSrc c.before.args.number c.match.keys1)
-    (λ c. arm blend_classes DualSrc c.before.args.number c.match.keys2)
-    (λ c. arm blend_classes DualSrc c.before.args.number c.match.keys3)
-    (λ c. default blend_classes DualSrc c.before.args.number c.match.rest))
+    (λ c. arm blend_classes DualSrc c.args.number c.in-0.is)
+    (λ c. arm blend_classes DualSrc c.args.number c.in-1.is)
+    (λ c. arm blend_classes DualSrc c.args.number c.in-2.is)
+    (λ c. default blend_classes DualSrc c.args.number c.in_default.in_default-own.rest))

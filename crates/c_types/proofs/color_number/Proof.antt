@@ -5,9 +5,9 @@ use Rattle.combiner_inputs.specs.Inputs.{color_number}
 use Rattle.c_types.proofs.color_number.Statement.{statement}
 use Rattle.c_types.proofs.color_number.Tie as tie
 
-pub color-number-spec : {M : Type 1} → statement M
+pub color_number_spec : {M : Type 1} → statement M
 unfolding color_number
-color-number-spec =
+color_number_spec =
     tie.close
     (tie.spec
     (λ c. search rules)
@@ -31,24 +31,24 @@ color-number-spec =
     (λ c. search rules)
     (λ c. search rules)
     (λ c. search rules)
-    (λ c. sym (ap color_number c.enum_told.given.1))
-    (λ c. sym (ap color_number c.enum-told2.given.1))
-    (λ c. sym (ap color_number c.enum-told3.given.1))
-    (λ c. sym (ap color_number c.enum-told4.given.1))
-    (λ c. sym (ap color_number c.enum-told5.given.1))
-    (λ c. sym (ap color_number c.enum-told6.given.1))
-    (λ c. sym (ap color_number c.enum-told7.given.1))
-    (λ c. sym (ap color_number c.enum-told8.given.1))
-    (λ c. sym (ap color_number c.enum-told9.given.1))
-    (λ c. sym (ap color_number c.enum-told10.given.1))
-    (λ c. sym (ap color_number c.enum-told11.given.1))
-    (λ c. sym (ap color_number c.enum-told12.given.1))
-    (λ c. sym (ap color_number c.enum-told13.given.1))
-    (λ c. sym (ap color_number c.enum-told14.given.1))
-    (λ c. sym (ap color_number c.enum-told15.given.1))
-    (λ c. sym (ap color_number c.enum-told16.given.1))
-    (λ c. sym (ap color_number c.enum-told17.given.1))
-    (λ c. sym (ap color_number c.enum-told18.given.1))
-    (λ c. sym (ap color_number c.enum-told19.given.1))
-    (λ c. sym (ap color_number c.enum-told20.given.1))
-    (λ c. sym (ap color_number c.enum-told21.given.1)))
+    (λ c. sym (ap color_number c.in-Combined.is))
+    (λ c. sym (ap color_number c.in-Texel0.is))
+    (λ c. sym (ap color_number c.in-Primitive.is))
+    (λ c. sym (ap color_number c.in-Shade.is))
+    (λ c. sym (ap color_number c.in-Environment.is))
+    (λ c. sym (ap color_number c.in-Zero.is))
+    (λ c. sym (ap color_number c.in-One.is))
+    (λ c. sym (ap color_number c.in-Texel1.is))
+    (λ c. sym (ap color_number c.in-KeyCenter.is))
+    (λ c. sym (ap color_number c.in-K4.is))
+    (λ c. sym (ap color_number c.in-KeyScale.is))
+    (λ c. sym (ap color_number c.in-CombinedAlpha.is))
+    (λ c. sym (ap color_number c.in-Texel0Alpha.is))
+    (λ c. sym (ap color_number c.in-Texel1Alpha.is))
+    (λ c. sym (ap color_number c.in-PrimitiveAlpha.is))
+    (λ c. sym (ap color_number c.in-ShadeAlpha.is))
+    (λ c. sym (ap color_number c.in-EnvAlpha.is))
+    (λ c. sym (ap color_number c.in-LodFraction.is))
+    (λ c. sym (ap color_number c.in-PrimLodFrac.is))
+    (λ c. sym (ap color_number c.in-K5.is))
+    (λ c. sym (ap color_number c.in-Noise.is)))

@@ -5,29 +5,29 @@ use Rattle.c_types.proofs.Cases.{arm, default}
 use Rattle.c_types.proofs.color_of_number.Statement.{statement}
 use Rattle.c_types.proofs.color_of_number.Tie as tie
 
-pub color-of-number-spec : {M : Type 1} → statement M
+pub color_of_number_spec : {M : Type 1} → statement M
 unfolding color_in_of
-color-of-number-spec =
+color_of_number_spec =
     tie.close
     (tie.spec
-    (λ c. arm color_inputs Noise c.before.args.number c.match.keys1)
-    (λ c. arm color_inputs Noise c.before.args.number c.match.keys2)
-    (λ c. arm color_inputs Noise c.before.args.number c.match.keys3)
-    (λ c. arm color_inputs Noise c.before.args.number c.match.keys4)
-    (λ c. arm color_inputs Noise c.before.args.number c.match.keys5)
-    (λ c. arm color_inputs Noise c.before.args.number c.match.keys6)
-    (λ c. arm color_inputs Noise c.before.args.number c.match.keys7)
-    (λ c. arm color_inputs Noise c.before.args.number c.match.keys8)
-    (λ c. arm color_inputs Noise c.before.args.number c.match.keys9)
-    (λ c. arm color_inputs Noise c.before.args.number c.match.keys10)
-    (λ c. arm color_inputs Noise c.before.args.number c.match.keys11)
-    (λ c. arm color_inputs Noise c.before.args.number c.match.keys12)
-    (λ c. arm color_inputs Noise c.before.args.number c.match.keys13)
-    (λ c. arm color_inputs Noise c.before.args.number c.match.keys14)
-    (λ c. arm color_inputs Noise c.before.args.number c.match.keys15)
-    (λ c. arm color_inputs Noise c.before.args.number c.match.keys16)
-    (λ c. arm color_inputs Noise c.before.args.number c.match.keys17)
-    (λ c. arm color_inputs Noise c.before.args.number c.match.keys18)
-    (λ c. arm color_inputs Noise c.before.args.number c.match.keys19)
-    (λ c. arm color_inputs Noise c.before.args.number c.match.keys20)
-    (λ c. default color_inputs Noise c.before.args.number c.match.rest))
+    (λ c. arm color_inputs Noise c.args.number c.in-0.is)
+    (λ c. arm color_inputs Noise c.args.number c.in-1.is)
+    (λ c. arm color_inputs Noise c.args.number c.in-2.is)
+    (λ c. arm color_inputs Noise c.args.number c.in-3.is)
+    (λ c. arm color_inputs Noise c.args.number c.in-4.is)
+    (λ c. arm color_inputs Noise c.args.number c.in-5.is)
+    (λ c. arm color_inputs Noise c.args.number c.in-6.is)
+    (λ c. arm color_inputs Noise c.args.number c.in-7.is)
+    (λ c. arm color_inputs Noise c.args.number c.in-8.is)
+    (λ c. arm color_inputs Noise c.args.number c.in-9.is)
+    (λ c. arm color_inputs Noise c.args.number c.in-10.is)
+    (λ c. arm color_inputs Noise c.args.number c.in-11.is)
+    (λ c. arm color_inputs Noise c.args.number c.in-12.is)
+    (λ c. arm color_inputs Noise c.args.number c.in-13.is)
+    (λ c. arm color_inputs Noise c.args.number c.in-14.is)
+    (λ c. arm color_inputs Noise c.args.number c.in-15.is)
+    (λ c. arm color_inputs Noise c.args.number c.in-16.is)
+    (λ c. arm color_inputs Noise c.args.number c.in-17.is)
+    (λ c. arm color_inputs Noise c.args.number c.in-18.is)
+    (λ c. arm color_inputs Noise c.args.number c.in-19.is)
+    (λ c. default color_inputs Noise c.args.number c.in_default.in_default-own.rest))

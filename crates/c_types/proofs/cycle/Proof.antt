@@ -4,87 +4,87 @@ use borrow.Author.Rules.{rules}
 use Rattle.c_types.proofs.cycle.Statement.{statement}
 use Rattle.c_types.proofs.cycle.Tie as tie
 
-array-read-color-of-number : tie.Need-array-read-color-of-number
-array-read-color-of-number c = search rules
+bounds-numbers-0 : tie.Need-bounds-numbers-0
+bounds-numbers-0 c = search rules
 
-color-of-number-requires : tie.Need-color-of-number-requires
-color-of-number-requires c κs = search rules
+color_of_number-ca-requires : tie.Need-color_of_number-ca-requires
+color_of_number-ca-requires c κs = search rules
 
-array-read-color-of-number-2 : tie.Need-array-read-color-of-number-2
-array-read-color-of-number-2 c = search rules
+bounds-numbers-1 : tie.Need-bounds-numbers-1
+bounds-numbers-1 c = search rules
 
-color-of-number-requires-2 : tie.Need-color-of-number-requires-2
-color-of-number-requires-2 c κs = search rules
+color_of_number-cb-requires : tie.Need-color_of_number-cb-requires
+color_of_number-cb-requires c κs = search rules
 
-array-read-color-of-number-3 : tie.Need-array-read-color-of-number-3
-array-read-color-of-number-3 c = search rules
+bounds-numbers-2 : tie.Need-bounds-numbers-2
+bounds-numbers-2 c = search rules
 
-color-of-number-requires-3 : tie.Need-color-of-number-requires-3
-color-of-number-requires-3 c κs = search rules
+color_of_number-cc-requires : tie.Need-color_of_number-cc-requires
+color_of_number-cc-requires c κs = search rules
 
-array-read-color-of-number-4 : tie.Need-array-read-color-of-number-4
-array-read-color-of-number-4 c = search rules
+bounds-numbers-3 : tie.Need-bounds-numbers-3
+bounds-numbers-3 c = search rules
 
-color-of-number-requires-4 : tie.Need-color-of-number-requires-4
-color-of-number-requires-4 c κs = search rules
+color_of_number-cd-requires : tie.Need-color_of_number-cd-requires
+color_of_number-cd-requires c κs = search rules
 
-array-read-alpha-of-number : tie.Need-array-read-alpha-of-number
-array-read-alpha-of-number c = search rules
+bounds-numbers-4 : tie.Need-bounds-numbers-4
+bounds-numbers-4 c = search rules
 
-alpha-of-number-requires : tie.Need-alpha-of-number-requires
-alpha-of-number-requires c κs = search rules
+alpha_of_number-aa-requires : tie.Need-alpha_of_number-aa-requires
+alpha_of_number-aa-requires c κs = search rules
 
-array-read-alpha-of-number-2 : tie.Need-array-read-alpha-of-number-2
-array-read-alpha-of-number-2 c = search rules
+bounds-numbers-5 : tie.Need-bounds-numbers-5
+bounds-numbers-5 c = search rules
 
-alpha-of-number-requires-2 : tie.Need-alpha-of-number-requires-2
-alpha-of-number-requires-2 c κs = search rules
+alpha_of_number-ab-requires : tie.Need-alpha_of_number-ab-requires
+alpha_of_number-ab-requires c κs = search rules
 
-array-read-alpha-of-number-3 : tie.Need-array-read-alpha-of-number-3
-array-read-alpha-of-number-3 c = search rules
+bounds-numbers-6 : tie.Need-bounds-numbers-6
+bounds-numbers-6 c = search rules
 
-alpha-of-number-requires-3 : tie.Need-alpha-of-number-requires-3
-alpha-of-number-requires-3 c κs = search rules
+alpha_of_number-ac-requires : tie.Need-alpha_of_number-ac-requires
+alpha_of_number-ac-requires c κs = search rules
 
-array-read-alpha-of-number-4 : tie.Need-array-read-alpha-of-number-4
-array-read-alpha-of-number-4 c = search rules
+bounds-numbers-7 : tie.Need-bounds-numbers-7
+bounds-numbers-7 c = search rules
 
-alpha-of-number-requires-4 : tie.Need-alpha-of-number-requires-4
-alpha-of-number-requires-4 c κs = search rules
+alpha_of_number-ad-requires : tie.Need-alpha_of_number-ad-requires
+alpha_of_number-ad-requires c κs = search rules
 
 returns : tie.Need-returns
 unfolding cycle_from
 returns c =
     λ i.
     record {
-      ca = c.before.before.before.before.before.before.before.color-of-number.ensures i;
-      cb = c.before.before.before.before.before.before.color-of-number2.ensures i;
-      cc = c.before.before.before.before.before.color-of-number3.ensures i;
-      cd = c.before.before.before.before.color-of-number4.ensures i;
-      aa = c.before.before.before.alpha-of-number.ensures i;
-      ab = c.before.before.alpha-of-number2.ensures i;
-      ac = c.before.alpha-of-number3.ensures i;
-      ad = c.alpha-of-number4.ensures i;
+      ca = c.color_of_number-ca.ensures i;
+      cb = c.color_of_number-cb.ensures i;
+      cc = c.color_of_number-cc.ensures i;
+      cd = c.color_of_number-cd.ensures i;
+      aa = c.alpha_of_number-aa.ensures i;
+      ab = c.alpha_of_number-ab.ensures i;
+      ac = c.alpha_of_number-ac.ensures i;
+      ad = c.alpha_of_number-ad.ensures i;
     }
 
-pub cycle-spec : {M : Type 1} → statement M
-cycle-spec =
+pub cycle_spec : {M : Type 1} → statement M
+cycle_spec =
     tie.close
     (tie.spec
-    array-read-color-of-number
-    color-of-number-requires
-    array-read-color-of-number-2
-    color-of-number-requires-2
-    array-read-color-of-number-3
-    color-of-number-requires-3
-    array-read-color-of-number-4
-    color-of-number-requires-4
-    array-read-alpha-of-number
-    alpha-of-number-requires
-    array-read-alpha-of-number-2
-    alpha-of-number-requires-2
-    array-read-alpha-of-number-3
-    alpha-of-number-requires-3
-    array-read-alpha-of-number-4
-    alpha-of-number-requires-4
+    bounds-numbers-0
+    color_of_number-ca-requires
+    bounds-numbers-1
+    color_of_number-cb-requires
+    bounds-numbers-2
+    color_of_number-cc-requires
+    bounds-numbers-3
+    color_of_number-cd-requires
+    bounds-numbers-4
+    alpha_of_number-aa-requires
+    bounds-numbers-5
+    alpha_of_number-ab-requires
+    bounds-numbers-6
+    alpha_of_number-ac-requires
+    bounds-numbers-7
+    alpha_of_number-ad-requires
     returns)

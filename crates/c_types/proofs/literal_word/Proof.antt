@@ -5,11 +5,11 @@ use borrow.Author.Rules.{rules}
 use Rattle.c_types.proofs.literal_word.Statement.{statement}
 use Rattle.c_types.proofs.literal_word.Tie as tie
 
+returns-then-literal : tie.Need-returns-then-literal
+returns-then-literal c = ap (λ b. literal_of b c.args.word) (sym c.if-literal.true)
+
 returns : tie.Need-returns
-returns c = ap (λ b. literal_of b c.before.args.word) (sym c.if1.true)
+returns c = search rules
 
-returns-2 : tie.Need-returns-2
-returns-2 c = search rules
-
-pub literal-word-spec : {M : Type 1} → statement M
-literal-word-spec = tie.close (tie.spec returns returns-2)
+pub literal_word_spec : {M : Type 1} → statement M
+literal_word_spec = tie.close (tie.spec returns-then-literal returns)

@@ -5,11 +5,11 @@ use borrow.Author.Rules.{rules}
 use Rattle.c_types.proofs.memory_coverage.Statement.{statement}
 use Rattle.c_types.proofs.memory_coverage.Tie as tie
 
+returns-then-known : tie.Need-returns-then-known
+returns-then-known c = ap (λ b. coverage_of b c.args.coverage) (sym c.if-known.true)
+
 returns : tie.Need-returns
-returns c = ap (λ b. coverage_of b c.before.args.coverage) (sym c.if1.true)
+returns c = search rules
 
-returns-2 : tie.Need-returns-2
-returns-2 c = search rules
-
-pub memory-coverage-spec : {M : Type 1} → statement M
-memory-coverage-spec = tie.close (tie.spec returns returns-2)
+pub memory_coverage_spec : {M : Type 1} → statement M
+memory_coverage_spec = tie.close (tie.spec returns-then-known returns)

@@ -4,14 +4,14 @@ use borrow.Author.Rules.{rules}
 use Rattle.c_types.proofs.parts_of.Statement.{statement}
 use Rattle.c_types.proofs.parts_of.Tie as tie
 
-numbers-requires : tie.Need-numbers-requires
-numbers-requires c κs = search rules
+numbers-selectors-requires : tie.Need-numbers-selectors-requires
+numbers-selectors-requires c κs = search rules
 
 returns : tie.Need-returns
 unfolding parts_of
 returns c =
-    let k = c.before.before.before.before.before.before.args.k in
-    λ i. record { selectors = c.before.before.before.before.numbers.ensures i; prim = k.prim; env = k.env; blend = k.blend; fog = k.fog; lod = k.lod }
+    let k = c.args.k in
+    λ i. record { selectors = c.numbers-selectors.ensures i; prim = k.prim; env = k.env; blend = k.blend; fog = k.fog; lod = k.lod }
 
-pub parts-of-spec : {M : Type 1} → statement M
-parts-of-spec = tie.close (tie.spec numbers-requires returns)
+pub parts_of_spec : {M : Type 1} → statement M
+parts_of_spec = tie.close (tie.spec numbers-selectors-requires returns)

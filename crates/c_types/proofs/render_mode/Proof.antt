@@ -4,30 +4,30 @@ use borrow.Author.Rules.{rules}
 use Rattle.c_types.proofs.render_mode.Statement.{statement}
 use Rattle.c_types.proofs.render_mode.Tie as tie
 
-blend-class-requires : tie.Need-blend-class-requires
-blend-class-requires c κs = search rules
+blend_class-class-requires : tie.Need-blend_class-class-requires
+blend_class-class-requires c κs = search rules
 
-blend-class-requires-2 : tie.Need-blend-class-requires-2
-blend-class-requires-2 c κs = search rules
+blend_class-fallback-requires : tie.Need-blend_class-fallback-requires
+blend_class-fallback-requires c κs = search rules
 
-z-mode-requires : tie.Need-z-mode-requires
-z-mode-requires c κs = search rules
+z_mode-z-requires : tie.Need-z_mode-z-requires
+z_mode-z-requires c κs = search rules
 
-alpha-compare-requires : tie.Need-alpha-compare-requires
-alpha-compare-requires c κs = search rules
+alpha_compare-compare-requires : tie.Need-alpha_compare-compare-requires
+alpha_compare-compare-requires c κs = search rules
 
 returns : tie.Need-returns
 unfolding mode_of
 returns c =
-    let m = c.before.before.before.before.args.m in
-    λ i. mode_with m (c.before.before.before.blend-class.ensures i) (c.before.before.blend-class2.ensures i) (c.before.z-mode.ensures i) (c.alpha-compare.ensures i)
+    let m = c.args.m in
+    λ i. mode_with m (c.blend_class-class.ensures i) (c.blend_class-fallback.ensures i) (c.z_mode-z.ensures i) (c.alpha_compare-compare.ensures i)
 
-pub render-mode-spec : {M : Type 1} → statement M
-render-mode-spec =
+pub render_mode_spec : {M : Type 1} → statement M
+render_mode_spec =
     tie.close
     (tie.spec
-    blend-class-requires
-    blend-class-requires-2
-    z-mode-requires
-    alpha-compare-requires
+    blend_class-class-requires
+    blend_class-fallback-requires
+    z_mode-z-requires
+    alpha_compare-compare-requires
     returns)

@@ -4,17 +4,17 @@ use borrow.Author.Rules.{rules}
 use Rattle.c_types.proofs.selectors_of.Statement.{statement}
 use Rattle.c_types.proofs.selectors_of.Tie as tie
 
-numbers-requires : tie.Need-numbers-requires
-numbers-requires c κs = search rules
+numbers-cyc0-requires : tie.Need-numbers-cyc0-requires
+numbers-cyc0-requires c κs = search rules
 
-numbers-requires-2 : tie.Need-numbers-requires-2
-numbers-requires-2 c κs = search rules
+numbers-cyc1-requires : tie.Need-numbers-cyc1-requires
+numbers-cyc1-requires c κs = search rules
 
 returns : tie.Need-returns
 unfolding selectors_of
 returns c =
-    let s = c.before.before.before.before.args.s in
-    λ i. record { raw_l = s.raw_l; raw_h = s.raw_h; cyc0 = c.before.before.numbers.ensures i; cyc1 = c.numbers2.ensures i }
+    let s = c.args.s in
+    λ i. record { raw_l = s.raw_l; raw_h = s.raw_h; cyc0 = c.numbers-cyc0.ensures i; cyc1 = c.numbers-cyc1.ensures i }
 
-pub selectors-of-spec : {M : Type 1} → statement M
-selectors-of-spec = tie.close (tie.spec numbers-requires numbers-requires-2 returns)
+pub selectors_of_spec : {M : Type 1} → statement M
+selectors_of_spec = tie.close (tie.spec numbers-cyc0-requires numbers-cyc1-requires returns)

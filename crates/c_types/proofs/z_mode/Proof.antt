@@ -5,12 +5,12 @@ use Rattle.c_types.proofs.Cases.{arm, default}
 use Rattle.c_types.proofs.z_mode.Statement.{statement}
 use Rattle.c_types.proofs.z_mode.Tie as tie
 
-pub z-mode-spec : {M : Type 1} → statement M
+pub z_mode_spec : {M : Type 1} → statement M
 unfolding z_mode_of
-z-mode-spec =
+z_mode_spec =
     tie.close
     (tie.spec
-    (λ c. arm z_modes Decal c.before.args.number c.match.keys1)
-    (λ c. arm z_modes Decal c.before.args.number c.match.keys2)
-    (λ c. arm z_modes Decal c.before.args.number c.match.keys3)
-    (λ c. default z_modes Decal c.before.args.number c.match.rest))
+    (λ c. arm z_modes Decal c.args.number c.in-0.is)
+    (λ c. arm z_modes Decal c.args.number c.in-1.is)
+    (λ c. arm z_modes Decal c.args.number c.in-2.is)
+    (λ c. default z_modes Decal c.args.number c.in_default.in_default-own.rest))
