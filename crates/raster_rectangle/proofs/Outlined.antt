@@ -6,7 +6,7 @@ use native.Mathlib.Omega.{arith}
 use mathlib.Core.Bool.{Bool, true, false, cond, ◌&&◌}
 use borrow.Author.Tests.{lt-ltb, le-ltb, lt-leb, le-leb, ltb-true, ltb-false, leb-true, leb-false}
 use lib.Dec.{ltb, leb}
-use lib.IntN.{ℤ, pos, ◌+ℤ◌}
+use lib.IntN.{pos, ◌+ℤ◌}
 use Rattle.raster_edge.specs.declared.Span.{Span}
 use Rattle.raster_edge.specs.Edge.{sticky, quantized, edge_at, cross_of}
 use Rattle.raster_edge.specs.Span.{span_of}

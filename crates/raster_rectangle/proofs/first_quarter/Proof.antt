@@ -4,14 +4,14 @@ use Rattle.raster_rectangle.proofs.First.{from_is, from_nan}
 use Rattle.raster_rectangle.proofs.first_quarter.Statement.{statement}
 use Rattle.raster_rectangle.proofs.first_quarter.Tie as tie
 
+returns-then-side : tie.Need-returns-then-side
+returns-then-side c = from_nan c.args.side c.if-side.true
+
+quarters_before-requires : tie.Need-quarters_before-requires
+quarters_before-requires c κs = search rules
+
 returns : tie.Need-returns
-returns c = from_nan c.before.args.side c.if1.true
+returns c = from_is c.args.side c.quarters_before.result c.if-side.false c.quarters_before.ensures
 
-quarters-before-requires : tie.Need-quarters-before-requires
-quarters-before-requires c κs = search rules
-
-returns-2 : tie.Need-returns-2
-returns-2 c = from_is c.before.before.args.side c.quarters-before.result c.before.if1.false c.quarters-before.ensures
-
-pub first-quarter-spec : {M : Type 1} → statement M
-first-quarter-spec = tie.close (tie.spec returns quarters-before-requires returns-2)
+pub first_quarter_spec : {M : Type 1} → statement M
+first_quarter_spec = tie.close (tie.spec returns-then-side quarters_before-requires returns)

@@ -15,11 +15,11 @@ small : (n : ℕ) → n < 1024 → T (in_float binary32 (pos n))
 unfolding in_float
 small n h = le→leb n (2 ^ 24) (omega arith)
 
-int-to-float-p : tie.Need-int-to-float-p
-int-to-float-p c = small c.before.args.n (omega arith)
+int_to_float-p : tie.Need-int_to_float-p
+int_to_float-p c = small c.args.n (omega arith)
 
-int-to-float-p-2 : tie.Need-int-to-float-p-2
-int-to-float-p-2 c = small c.before.before.args.q (omega arith)
+int_to_float-p-2 : tie.Need-int_to_float-p-2
+int_to_float-p-2 c = small c.args.q (omega arith)
 
 within-requires : tie.Need-within-requires
 within-requires c κs = search rules
@@ -31,6 +31,6 @@ returns c =
     let a = s.args in
     c.within.ensures ∙ quarter_at a.low a.high a.n a.q s.requires.0 s.requires.1
 
-pub quarter-within-spec : {M : Type 1} → statement M
-quarter-within-spec =
-    tie.close (tie.spec int-to-float-p int-to-float-p-2 within-requires returns)
+pub quarter_within_spec : {M : Type 1} → statement M
+quarter_within_spec =
+    tie.close (tie.spec int_to_float-p int_to_float-p-2 within-requires returns)

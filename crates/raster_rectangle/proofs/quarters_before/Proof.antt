@@ -20,40 +20,40 @@ use Rattle.raster_rectangle.proofs.quarters_before.Tie as tie
 quarter-requires : tie.Need-quarter-requires
 quarter-requires c κs = search rules
 
-clamp-requires : tie.Need-clamp-requires
-clamp-requires c κs = search rules
+clamp-n-requires : tie.Need-clamp-n-requires
+clamp-n-requires c κs = search rules
 
 -- the nearest quarter, its bound, and the code's test of it
-module _ (c : tie.After-clamp) where
-  nearest : c.clamp.result ≡ clamp_of (quarter_of c.before.before.args.side) 0 4095
-  nearest = c.clamp.ensures ∙ ap (λ (z : ℤ). clamp_of z 0 4095) (back c.before.quarter.result c.before.quarter.type-inv ∙ c.before.quarter.ensures)
+module _ (c : tie.After-clamp-n) where
+  nearest : c.clamp-n.result ≡ clamp_of (quarter_of c.args.side) 0 4095
+  nearest = c.clamp-n.ensures ∙ ap (λ (z : ℤ). clamp_of z 0 4095) (back c.quarter.result c.quarter.type_inv ∙ c.quarter.ensures)
 
-  small : c.clamp.result ≤ 4095
-  small = omega (arith, nearest, clamp_in (quarter_of c.before.before.args.side) 0 4095 (omega arith))
+  small : c.clamp-n.result ≤ 4095
+  small = omega (arith, nearest, clamp_in (quarter_of c.args.side) 0 4095 (omega arith))
 
-  test : {t : Bool} → lt (mul binary32 (of_int binary32 (pos c.clamp.result)) (fin false 1 (negsuc 1))) c.before.before.args.side ≡ t → lt (quarters c.clamp.result) c.before.before.args.side ≡ t
-  test e = sym (lt_at _ c.before.before.args.side c.clamp.result (quarter_is c.clamp.result (omega (arith, small)))) ∙ e
+  test : {t : Bool} → lt (mul binary32 (of_int binary32 (pos c.clamp-n.result)) (fin false 1 (negsuc 1))) c.args.side ≡ t → lt (quarters c.clamp-n.result) c.args.side ≡ t
+  test e = sym (lt_at _ c.args.side c.clamp-n.result (quarter_is c.clamp-n.result (omega (arith, small)))) ∙ e
 
-int-to-float-if1 : tie.Need-int-to-float-if1
+int_to_float-n : tie.Need-int_to_float-n
 unfolding in_float
-int-to-float-if1 c = le→leb c.before.clamp.result (2 ^ 24) (omega (arith, small c.before))
+int_to_float-n c = le→leb c.clamp-n.result (2 ^ 24) (omega (arith, small c.before))
 
-add-result : tie.Need-overflow-add-result
-add-result c = omega (arith, small c.before.before)
+overflow_add-result : tie.Need-overflow_add-result
+overflow_add-result c = omega (arith, small c.before.before)
 
-returns : tie.Need-returns
+returns-then-n-side : tie.Need-returns-then-n-side
 unfolding of_bits
-returns c =
+returns-then-n-side c =
     let m = c.before.before in
-    before_is m.before.before.args.side m.clamp.result true (nearest m) (test m c.if1.true)
+    before_is m.args.side m.clamp-n.result true (nearest m) (test m c.if-n-side.true)
 
-returns-2 : tie.Need-returns-2
+returns-else-n-side : tie.Need-returns-else-n-side
 unfolding of_bits
-returns-2 c =
+returns-else-n-side c =
     let m = c.before.before in
-    before_is m.before.before.args.side m.clamp.result false (nearest m) (test m c.if1.false)
+    before_is m.args.side m.clamp-n.result false (nearest m) (test m c.if-n-side.false)
 
-pub quarters-before-spec : {M : Type 1} → statement M
-quarters-before-spec =
+pub quarters_before_spec : {M : Type 1} → statement M
+quarters_before_spec =
     tie.close
-    (tie.spec quarter-requires clamp-requires int-to-float-if1 add-result returns returns-2)
+    (tie.spec quarter-requires clamp-n-requires int_to_float-n overflow_add-result returns-then-n-side returns-else-n-side)

@@ -5,11 +5,11 @@ use Rattle.raster_edge.proofs.Held.{uns, shl}
 use Rattle.raster_rectangle.proofs.upright.Statement.{statement}
 use Rattle.raster_rectangle.proofs.upright.Tie as tie
 
-cast-t2 : tie.Need-overflow-cast-t2
-cast-t2 c = search rules
+overflow_cast-result : tie.Need-overflow_cast-result
+overflow_cast-result c = search rules
 
 returns : tie.Need-returns
 returns c = λ i. record { start = (shl (uns c.requires tt) 14 tt).read i; step = pos 0; base = pos 0 }
 
-pub upright-spec : {M : Type 1} → statement M
-upright-spec = tie.close (tie.spec cast-t2 returns)
+pub upright_spec : {M : Type 1} → statement M
+upright_spec = tie.close (tie.spec overflow_cast-result returns)

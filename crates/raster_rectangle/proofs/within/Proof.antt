@@ -5,11 +5,11 @@ use lib.Ieee.{lt}
 use Rattle.raster_rectangle.proofs.within.Statement.{statement}
 use Rattle.raster_rectangle.proofs.within.Tie as tie
 
+returns-then-p-low : tie.Need-returns-then-p-low
+returns-then-p-low c = λ i. sym c.if-p-low.true i && lt c.args.p c.args.high
+
 returns : tie.Need-returns
-returns c = λ i. sym c.if1.true i && lt c.before.args.p c.before.args.high
+returns c = λ i. sym c.if-p-low.false i && lt c.args.p c.args.high
 
-returns-2 : tie.Need-returns-2
-returns-2 c = λ i. sym c.if1.false i && lt c.before.args.p c.before.args.high
-
-pub within-spec : {M : Type 1} → statement M
-within-spec = tie.close (tie.spec returns returns-2)
+pub within_spec : {M : Type 1} → statement M
+within_spec = tie.close (tie.spec returns-then-p-low returns)
