@@ -1,6 +1,6 @@
 #!/usr/bin/env bash
 # Which definitions a reader must believe: those that the contracts of the public calls cite, those of the three theorems on whole lists, of what either engine leaves and of what is certain, of the proved table, of the law
-# `one-range`, of the law `by-count` and of the needs of the loads, and, through their bodies, what these cite in turn. Every other definition under crates/*/specs is vocabulary of inner functions, tied to the believed
+# `one_range`, of the law `by_count` and of the needs of the loads, and, through their bodies, what these cite in turn. Every other definition under crates/*/specs is vocabulary of inner functions, tied to the believed
 # ones by proof. Holds the first line of each file of specs/, and the tables of docs/THEOREMS.md, to that; prints what is wrong and then fails.
 set -euo pipefail
 cd "$(dirname "$0")/.."
@@ -60,7 +60,7 @@ function meaning(file, module, name,    dot, head, d) {
 function head_of_name(name) { sub(/\..*/, "", name); return name }
 
 # Brackets and the like become blanks; a dot behind a name (λ x.) goes, one before it (a projection) stays.
-function spaced(s) { gsub(/[(){};,]|\[|\]|⌜|⌝/, " ", s); gsub(/\. /, " ", s); return " " s " " }
+function spaced(s) { gsub(/[(){};,]|\[|\]/, " ", s); gsub(/\. /, " ", s); return " " s " " }
 
 # Every definition that a text cites, but for those whose name is bound in it.
 function cite(from, file, module, s,    n, i, d, word, w) {
