@@ -15,7 +15,7 @@ use Rattle.blender.specs.declared.Coverage.{Coverage}
 use Rattle.blender.specs.Coverage.{destination_of}
 use Rattle.blender.specs.Known.{color_known}
 use Rattle.blender.specs.Blend.{blend_of}
-use Rattle.writeback_pixel.specs.Refusal.{mask_ok, coverage_ok, known_ok, Outcome, checked}
+use Rattle.writeback_pixel.specs.Refusal.{mask_ok, coverage_ok, known_ok, checked}
 use Rattle.writeback_pixel.specs.Calls.{destination_call, color_known_call, no_bytes, blend_call}
 use Rattle.writeback_pixel.specs.Counted.{count_ok, counted}
 

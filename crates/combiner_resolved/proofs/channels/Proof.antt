@@ -18,10 +18,10 @@ channel-requires-4 c κs = search rules
 
 returns : tie.Need-returns
 unfolding channels_of
-returns c = λ i. record { r = c.before.before.before.channel.ensures i; g = c.before.before.channel2.ensures i; b = c.before.channel3.ensures i; a = c.channel4.ensures i }
+returns c = λ i. record { r = c.channel.ensures i; g = c.channel-2.ensures i; b = c.channel-3.ensures i; a = c.channel-4.ensures i }
 
-pub channels-spec : {M : Type 1} → statement M
-channels-spec =
+pub channels_spec : {M : Type 1} → statement M
+channels_spec =
     tie.close
     (tie.spec
     channel-requires

@@ -4,23 +4,23 @@ use borrow.Author.Rules.{rules}
 use Rattle.combiner_resolved.proofs.resolve.Statement.{statement}
 use Rattle.combiner_resolved.proofs.resolve.Tie as tie
 
-operand-of-requires : tie.Need-operand-of-requires
-operand-of-requires c κs = search rules
+operand_of-a-requires : tie.Need-operand_of-a-requires
+operand_of-a-requires c κs = search rules
 
-operand-of-requires-2 : tie.Need-operand-of-requires-2
-operand-of-requires-2 c κs = search rules
+operand_of-b-requires : tie.Need-operand_of-b-requires
+operand_of-b-requires c κs = search rules
 
-operand-of-requires-3 : tie.Need-operand-of-requires-3
-operand-of-requires-3 c κs = search rules
+operand_of-c-requires : tie.Need-operand_of-c-requires
+operand_of-c-requires c κs = search rules
 
-operand-of-requires-4 : tie.Need-operand-of-requires-4
-operand-of-requires-4 c κs = search rules
+operand_of-d-requires : tie.Need-operand_of-d-requires
+operand_of-d-requires c κs = search rules
 
 returns : tie.Need-returns
 unfolding resolved_of
-returns c = λ i. record { a = c.before.before.before.operand-of.ensures i; b = c.before.before.operand-of2.ensures i; c = c.before.operand-of3.ensures i; d = c.operand-of4.ensures i }
+returns c = λ i. record { a = c.operand_of-a.ensures i; b = c.operand_of-b.ensures i; c = c.operand_of-c.ensures i; d = c.operand_of-d.ensures i }
 
-pub resolve-spec : {M : Type 1} → statement M
-resolve-spec =
+pub resolve_spec : {M : Type 1} → statement M
+resolve_spec =
     tie.close
-    (tie.spec operand-of-requires operand-of-requires-2 operand-of-requires-3 operand-of-requires-4 returns)
+    (tie.spec operand_of-a-requires operand_of-b-requires operand_of-c-requires operand_of-d-requires returns)

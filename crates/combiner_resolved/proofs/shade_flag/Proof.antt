@@ -8,16 +8,16 @@ use borrow.Author.Rules.{rules}
 use Rattle.combiner_resolved.proofs.shade_flag.Statement.{statement}
 use Rattle.combiner_resolved.proofs.shade_flag.Tie as tie
 
-enum_told : tie.Need-enum-told
-enum_told c = search rules
+enum_told-1 : tie.Need-enum_told-1
+enum_told-1 c = search rules
 
-returns : tie.Need-returns
+returns-in-Shade : tie.Need-returns-in-Shade
 unfolding shade_flag color_number
-returns c = sym (ap shade_flag c.enum_told.given.1)
+returns-in-Shade c = sym (ap shade_flag c.in-Shade.is)
 
-returns-2 : tie.Need-returns-2
+returns-in_default : tie.Need-returns-in_default
 unfolding shade_flag color_number colors
-returns-2 c = color_one_of shade_flag (others 21 (3 ∷ [])) c.before.args.input c.match.keys2 refl
+returns-in_default c = color_one_of shade_flag (others 21 (3 ∷ [])) c.args.input c.in_default.in_default-own.keys2 refl
 
-pub shade-flag-spec : {M : Type 1} → statement M
-shade-flag-spec = tie.close (tie.spec enum_told returns returns-2)
+pub shade_flag_spec : {M : Type 1} → statement M
+shade_flag_spec = tie.close (tie.spec enum_told-1 returns-in-Shade returns-in_default)

@@ -6,19 +6,19 @@ use borrow.Author.Rules.{rules}
 use Rattle.combiner_resolved.proofs.value_or_zero.Statement.{statement}
 use Rattle.combiner_resolved.proofs.value_or_zero.Tie as tie
 
-enum-known-input : tie.Need-enum-known-input
-enum-known-input c = search rules
+enum_known-input : tie.Need-enum_known-input
+enum_known-input c = search rules
 
-enum_told : tie.Need-enum-told
-enum_told c = search rules
+enum_told-1 : tie.Need-enum_told-1
+enum_told-1 c = search rules
+
+returns-in_default : tie.Need-returns-in_default
+unfolding of_bits or_zero
+returns-in_default c = sym (ap or_zero c.in_default.is)
 
 returns : tie.Need-returns
-unfolding of_bits or_zero
-returns c = sym (ap or_zero c.enum_told.given.1)
-
-returns-2 : tie.Need-returns-2
 unfolding or_zero
-returns-2 c = sym (ap or_zero c.before.input.given.1)
+returns c = sym (ap or_zero c.in-Value.is)
 
-pub value-or-zero-spec : {M : Type 1} → statement M
-value-or-zero-spec = tie.close (tie.spec enum-known-input enum_told returns returns-2)
+pub value_or_zero_spec : {M : Type 1} → statement M
+value_or_zero_spec = tie.close (tie.spec enum_known-input enum_told-1 returns-in_default returns)

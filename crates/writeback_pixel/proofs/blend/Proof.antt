@@ -8,34 +8,34 @@ use Rattle.writeback_pixel.specs.Calls.{blend_call}
 use Rattle.writeback_pixel.proofs.blend.Statement.{statement}
 use Rattle.writeback_pixel.proofs.blend.Tie as tie
 
-blend-requires : tie.Need-blend-requires
-blend-requires c κs = search rules
+blend-bytes-requires : tie.Need-blend-bytes-requires
+blend-bytes-requires c κs = search rules
 
-ones-requires : tie.Need-ones-requires
-ones-requires c κs = search rules
+ones-count-requires : tie.Need-ones-count-requires
+ones-count-requires c κs = search rules
 
-coverage-ok-requires : tie.Need-coverage-ok-requires
-coverage-ok-requires c κs = search rules
+coverage_ok-requires : tie.Need-coverage_ok-requires
+coverage_ok-requires c κs = search rules
 
-mask-ok-requires : tie.Need-mask-ok-requires
-mask-ok-requires c κs = search rules
+mask_ok-requires : tie.Need-mask_ok-requires
+mask_ok-requires c κs = search rules
+
+returns-then-coverage_ok : tie.Need-returns-then-coverage_ok
+unfolding blend_call
+returns-then-coverage_ok c =
+    let o = c.before in
+    let t = o.before in
+    let a = t.args in
+    passes _ _ (both (told t.mask_ok.ensures t.if-mask_ok.true) (told t.coverage_ok.ensures t.if-coverage_ok.true))
+    (c.blend-bytes.ensures ∙ (λ i. blend_of a.mode a.combiner a.rgba a.memory a.shade_alpha (o.ones-count.ensures i) a.coverage))
+
+returns-then-mask_ok : tie.Need-returns-then-mask_ok
+unfolding blend_call
+returns-then-mask_ok c = fails _ _ (second (told c.mask_ok.ensures c.if-mask_ok.true) (told c.coverage_ok.ensures c.if-coverage_ok.false))
 
 returns : tie.Need-returns
 unfolding blend_call
-returns c =
-    let o = c.before in
-    let t = o.before in
-    let a = t.before.before.before.before.args in
-    passes _ _ (both (told t.before.before.before.mask-ok.ensures t.before.before.if1.true) (told t.before.coverage-ok.ensures t.if2.true))
-    (c.blend.ensures ∙ (λ i. blend_of a.mode a.combiner a.rgba a.memory a.shade-alpha (o.ones.ensures i) a.coverage))
+returns c = let a = c.args in fails _ _ (first (mask_ok a.mask) (coverage_ok a.coverage) (told c.mask_ok.ensures c.if-mask_ok.false))
 
-returns-2 : tie.Need-returns-2
-unfolding blend_call
-returns-2 c = fails _ _ (second (told c.before.before.before.mask-ok.ensures c.before.before.if1.true) (told c.before.coverage-ok.ensures c.if2.false))
-
-returns-3 : tie.Need-returns-3
-unfolding blend_call
-returns-3 c = let a = c.before.before.args in fails _ _ (first (mask_ok a.mask) (coverage_ok a.coverage) (told c.before.mask-ok.ensures c.if1.false))
-
-pub blend-spec : {M : Type 1} → statement M
-blend-spec = tie.close (tie.spec mask-ok-requires coverage-ok-requires ones-requires blend-requires returns returns-2 returns-3)
+pub blend_spec : {M : Type 1} → statement M
+blend_spec = tie.close (tie.spec mask_ok-requires coverage_ok-requires ones-count-requires blend-bytes-requires returns-then-coverage_ok returns-then-mask_ok returns)

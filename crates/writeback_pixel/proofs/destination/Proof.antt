@@ -10,38 +10,38 @@ use Rattle.writeback_pixel.specs.Calls.{destination_call}
 use Rattle.writeback_pixel.proofs.destination.Statement.{statement}
 use Rattle.writeback_pixel.proofs.destination.Tie as tie
 
-ones-requires : tie.Need-ones-requires
-ones-requires c κs = search rules
+ones-count-requires : tie.Need-ones-count-requires
+ones-count-requires c κs = search rules
 
-coverage-ok-requires : tie.Need-coverage-ok-requires
-coverage-ok-requires c κs = search rules
+coverage_ok-requires : tie.Need-coverage_ok-requires
+coverage_ok-requires c κs = search rules
 
-mask-ok-requires : tie.Need-mask-ok-requires
-mask-ok-requires c κs = search rules
+mask_ok-requires : tie.Need-mask_ok-requires
+mask_ok-requires c κs = search rules
 
 destination-requires : tie.Need-destination-requires
 destination-requires c κs =
     let t = c.before in
-    let m = t.before.before.before.before.args.mask in
-    let n = ones_range m (masks m (told t.before.before.before.mask-ok.ensures t.before.before.if1.true)) (omega arith) in
-    (omega (arith, n.0, c.ones.ensures), omega (arith, n.1, c.ones.ensures), coverages _ (told t.before.coverage-ok.ensures t.if2.true))
+    let m = t.args.mask in
+    let n = ones_range m (masks m (told t.mask_ok.ensures t.if-mask_ok.true)) (omega arith) in
+    (omega (arith, n.0, c.ones-count.ensures), omega (arith, n.1, c.ones-count.ensures), coverages _ (told t.coverage_ok.ensures t.if-coverage_ok.true))
+
+returns-then-coverage_ok : tie.Need-returns-then-coverage_ok
+unfolding destination_call
+returns-then-coverage_ok c =
+    let o = c.before in
+    let t = o.before in
+    let a = t.args in
+    passes _ _ (both (told t.mask_ok.ensures t.if-mask_ok.true) (told t.coverage_ok.ensures t.if-coverage_ok.true))
+    (c.destination.ensures.0 ∙ (λ i. destination_of a.mode (o.ones-count.ensures i) a.memory))
+
+returns-then-mask_ok : tie.Need-returns-then-mask_ok
+unfolding destination_call
+returns-then-mask_ok c = fails _ _ (second (told c.mask_ok.ensures c.if-mask_ok.true) (told c.coverage_ok.ensures c.if-coverage_ok.false))
 
 returns : tie.Need-returns
 unfolding destination_call
-returns c =
-    let o = c.before in
-    let t = o.before in
-    let a = t.before.before.before.before.args in
-    passes _ _ (both (told t.before.before.before.mask-ok.ensures t.before.before.if1.true) (told t.before.coverage-ok.ensures t.if2.true))
-    (c.destination.ensures.0 ∙ (λ i. destination_of a.mode (o.ones.ensures i) a.memory))
+returns c = let a = c.args in fails _ _ (first (mask_ok a.mask) (coverage_ok a.memory) (told c.mask_ok.ensures c.if-mask_ok.false))
 
-returns-2 : tie.Need-returns-2
-unfolding destination_call
-returns-2 c = fails _ _ (second (told c.before.before.before.mask-ok.ensures c.before.before.if1.true) (told c.before.coverage-ok.ensures c.if2.false))
-
-returns-3 : tie.Need-returns-3
-unfolding destination_call
-returns-3 c = let a = c.before.before.args in fails _ _ (first (mask_ok a.mask) (coverage_ok a.memory) (told c.before.mask-ok.ensures c.if1.false))
-
-pub destination-spec : {M : Type 1} → statement M
-destination-spec = tie.close (tie.spec mask-ok-requires coverage-ok-requires ones-requires destination-requires returns returns-2 returns-3)
+pub destination_spec : {M : Type 1} → statement M
+destination_spec = tie.close (tie.spec mask_ok-requires coverage_ok-requires ones-count-requires destination-requires returns-then-coverage_ok returns-then-mask_ok returns)

@@ -5,19 +5,19 @@ use Rattle.writeback_pixel.specs.Calls.{encode_call}
 use Rattle.writeback_pixel.proofs.encode.Statement.{statement}
 use Rattle.writeback_pixel.proofs.encode.Tie as tie
 
-encode-ok-requires : tie.Need-encode-ok-requires
-encode-ok-requires c κs = search rules
+encode_ok-requires : tie.Need-encode_ok-requires
+encode_ok-requires c κs = search rules
 
-encode-requires : tie.Need-encode-requires
-encode-requires c κs = let a = c.before.before.args in writes a.writer a.coverage a.pixel (told c.before.encode-ok.ensures c.if1.true)
+encode-bytes-requires : tie.Need-encode-bytes-requires
+encode-bytes-requires c κs = let a = c.args in writes a.writer a.coverage a.pixel (told c.encode_ok.ensures c.if-encode_ok.true)
+
+returns-then-encode_ok : tie.Need-returns-then-encode_ok
+unfolding encode_call
+returns-then-encode_ok c = passes _ _ (told c.encode_ok.ensures c.if-encode_ok.true) c.encode-bytes.ensures
 
 returns : tie.Need-returns
 unfolding encode_call
-returns c = passes _ _ (told c.before.before.encode-ok.ensures c.before.if1.true) c.encode.ensures
+returns c = fails _ _ (told c.encode_ok.ensures c.if-encode_ok.false)
 
-returns-2 : tie.Need-returns-2
-unfolding encode_call
-returns-2 c = fails _ _ (told c.before.encode-ok.ensures c.if1.false)
-
-pub encode-spec : {M : Type 1} → statement M
-encode-spec = tie.close (tie.spec encode-ok-requires encode-requires returns returns-2)
+pub encode_spec : {M : Type 1} → statement M
+encode_spec = tie.close (tie.spec encode_ok-requires encode-bytes-requires returns-then-encode_ok returns)

@@ -7,32 +7,32 @@ use Rattle.writeback_pixel.proofs.Checked.{told}
 use Rattle.writeback_pixel.proofs.encode_ok.Statement.{statement}
 use Rattle.writeback_pixel.proofs.encode_ok.Tie as tie
 
-writer-ok-requires : tie.Need-writer-ok-requires
-writer-ok-requires c κs = search rules
+writer_ok-requires : tie.Need-writer_ok-requires
+writer_ok-requires c κs = search rules
 
-coverage-ok-requires : tie.Need-coverage-ok-requires
-coverage-ok-requires c κs = search rules
+coverage_ok-requires : tie.Need-coverage_ok-requires
+coverage_ok-requires c κs = search rules
 
-place-ok-requires : tie.Need-place-ok-requires
-place-ok-requires c κs = search rules
+place_ok-requires : tie.Need-place_ok-requires
+place_ok-requires c κs = search rules
+
+returns-then-coverage_ok : tie.Need-returns-then-coverage_ok
+returns-then-coverage_ok c =
+    let writer = told c.writer_ok.ensures c.if-writer_ok.true in
+    let coverage = told c.coverage_ok.ensures c.if-coverage_ok.true in
+    λ i. sym writer i && (sym coverage i && c.place_ok.ensures i)
+
+returns-then-writer_ok : tie.Need-returns-then-writer_ok
+returns-then-writer_ok c =
+    let writer = told c.writer_ok.ensures c.if-writer_ok.true in
+    let coverage = told c.coverage_ok.ensures c.if-coverage_ok.false in
+    λ i. sym writer i && (sym coverage i && place_ok c.args.pixel)
 
 returns : tie.Need-returns
 returns c =
-    let writer = told c.before.before.before.before.writer-ok.ensures c.before.before.before.if1.true in
-    let coverage = told c.before.before.coverage-ok.ensures c.before.if2.true in
-    λ i. sym writer i && (sym coverage i && c.Place-ok.ensures i)
-
-returns-2 : tie.Need-returns-2
-returns-2 c =
-    let writer = told c.before.before.before.writer-ok.ensures c.before.before.if1.true in
-    let coverage = told c.before.coverage-ok.ensures c.if2.false in
-    λ i. sym writer i && (sym coverage i && place_ok c.before.before.before.before.args.pixel)
-
-returns-3 : tie.Need-returns-3
-returns-3 c =
-    let a = c.before.before.args in
-    let writer = told c.before.writer-ok.ensures c.if1.false in
+    let a = c.args in
+    let writer = told c.writer_ok.ensures c.if-writer_ok.false in
     λ i. sym writer i && (coverage_ok a.coverage && place_ok a.pixel)
 
-pub encode-ok-spec : {M : Type 1} → statement M
-encode-ok-spec = tie.close (tie.spec writer-ok-requires coverage-ok-requires place-ok-requires returns returns-2 returns-3)
+pub encode_ok_spec : {M : Type 1} → statement M
+encode_ok_spec = tie.close (tie.spec writer_ok-requires coverage_ok-requires place_ok-requires returns-then-coverage_ok returns-then-writer_ok returns)

@@ -5,20 +5,20 @@ use Rattle.writeback_pixel.specs.Refusal.{known_ok}
 use Rattle.writeback_pixel.proofs.known_ok.Statement.{statement}
 use Rattle.writeback_pixel.proofs.known_ok.Tie as tie
 
-enum_told : tie.Need-enum-told
-enum_told c = search rules
+enum_told-1 : tie.Need-enum_told-1
+enum_told-1 c = search rules
 
-enum-known-coverage : tie.Need-enum-known-coverage
-enum-known-coverage c = search rules
+enum_known-coverage : tie.Need-enum_known-coverage
+enum_known-coverage c = search rules
 
-coverage-ok-requires : tie.Need-coverage-ok-requires
-coverage-ok-requires c κs = search rules
+coverage_ok-requires : tie.Need-coverage_ok-requires
+coverage_ok-requires c κs = search rules
 
-returns : tie.Need-returns
-returns c = search rules
+returns-in-Unknown : tie.Need-returns-in-Unknown
+returns-in-Unknown c = search rules
 
-returns-2 : tie.Need-returns-2
-returns-2 c = c.coverage-ok.ensures ∙ sym (ap known_ok c.before.before.coverage.given.1)
+returns-in-Known : tie.Need-returns-in-Known
+returns-in-Known c = c.coverage_ok.ensures ∙ sym (ap known_ok c.in-Known.is)
 
-pub known-ok-spec : {M : Type 1} → statement M
-known-ok-spec = tie.close (tie.spec enum_told enum-known-coverage coverage-ok-requires returns returns-2)
+pub known_ok_spec : {M : Type 1} → statement M
+known_ok_spec = tie.close (tie.spec enum_told-1 enum_known-coverage coverage_ok-requires returns-in-Unknown returns-in-Known)

@@ -5,19 +5,19 @@ use Rattle.writeback_pixel.specs.Calls.{pack_color_call}
 use Rattle.writeback_pixel.proofs.pack_color.Statement.{statement}
 use Rattle.writeback_pixel.proofs.pack_color.Tie as tie
 
-coverage-ok-requires : tie.Need-coverage-ok-requires
-coverage-ok-requires c κs = search rules
+coverage_ok-requires : tie.Need-coverage_ok-requires
+coverage_ok-requires c κs = search rules
 
-pack-color-requires : tie.Need-pack-color-requires
-pack-color-requires c κs = coverages _ (told c.before.coverage-ok.ensures c.if1.true)
+pack_color-requires : tie.Need-pack_color-requires
+pack_color-requires c κs = coverages _ (told c.coverage_ok.ensures c.if-coverage_ok.true)
+
+returns-then-coverage_ok : tie.Need-returns-then-coverage_ok
+unfolding pack_color_call
+returns-then-coverage_ok c = passes _ _ (told c.coverage_ok.ensures c.if-coverage_ok.true) c.pack_color.ensures
 
 returns : tie.Need-returns
 unfolding pack_color_call
-returns c = passes _ _ (told c.before.before.coverage-ok.ensures c.before.if1.true) c.pack-color.ensures
+returns c = fails _ _ (told c.coverage_ok.ensures c.if-coverage_ok.false)
 
-returns-2 : tie.Need-returns-2
-unfolding pack_color_call
-returns-2 c = fails _ _ (told c.before.coverage-ok.ensures c.if1.false)
-
-pub pack-color-spec : {M : Type 1} → statement M
-pack-color-spec = tie.close (tie.spec coverage-ok-requires pack-color-requires returns returns-2)
+pub pack_color_spec : {M : Type 1} → statement M
+pack_color_spec = tie.close (tie.spec coverage_ok-requires pack_color-requires returns-then-coverage_ok returns)

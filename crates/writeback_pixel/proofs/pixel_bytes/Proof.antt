@@ -5,19 +5,19 @@ use Rattle.writeback_pixel.specs.Calls.{pixel_bytes_call}
 use Rattle.writeback_pixel.proofs.pixel_bytes.Statement.{statement}
 use Rattle.writeback_pixel.proofs.pixel_bytes.Tie as tie
 
-writer-ok-requires : tie.Need-writer-ok-requires
-writer-ok-requires c κs = search rules
+writer_ok-requires : tie.Need-writer_ok-requires
+writer_ok-requires c κs = search rules
 
-pixel-bytes-requires : tie.Need-pixel-bytes-requires
-pixel-bytes-requires c κs = (writers c.before.before.args.writer (told c.before.writer-ok.ensures c.if1.true)).0
+pixel_bytes-requires : tie.Need-pixel_bytes-requires
+pixel_bytes-requires c κs = (writers c.args.writer (told c.writer_ok.ensures c.if-writer_ok.true)).0
+
+returns-then-writer_ok : tie.Need-returns-then-writer_ok
+unfolding pixel_bytes_call
+returns-then-writer_ok c = passes _ _ (told c.writer_ok.ensures c.if-writer_ok.true) c.pixel_bytes.ensures
 
 returns : tie.Need-returns
 unfolding pixel_bytes_call
-returns c = passes _ _ (told c.before.before.writer-ok.ensures c.before.if1.true) c.pixel-bytes.ensures
+returns c = fails _ _ (told c.writer_ok.ensures c.if-writer_ok.false)
 
-returns-2 : tie.Need-returns-2
-unfolding pixel_bytes_call
-returns-2 c = fails _ _ (told c.before.writer-ok.ensures c.if1.false)
-
-pub pixel-bytes-spec : {M : Type 1} → statement M
-pixel-bytes-spec = tie.close (tie.spec writer-ok-requires pixel-bytes-requires returns returns-2)
+pub pixel_bytes_spec : {M : Type 1} → statement M
+pixel_bytes_spec = tie.close (tie.spec writer_ok-requires pixel_bytes-requires returns-then-writer_ok returns)

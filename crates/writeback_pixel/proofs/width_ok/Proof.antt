@@ -7,11 +7,11 @@ use borrow.Author.Tests.{lt-leb, le-leb}
 use Rattle.writeback_pixel.proofs.width_ok.Statement.{statement}
 use Rattle.writeback_pixel.proofs.width_ok.Tie as tie
 
+returns-then-width-eq0 : tie.Need-returns-then-width-eq0
+returns-then-width-eq0 c = let n = c.args.width in λ i. sym (lt-leb 1 n (omega arith)) i && leb n 1024
+
 returns : tie.Need-returns
-returns c = let n = c.before.args.width in λ i. sym (lt-leb 1 n (omega arith)) i && leb n 1024
+returns c = let n = c.args.width in λ i. sym (le-leb 1 n (omega arith)) i && leb n 1024
 
-returns-2 : tie.Need-returns-2
-returns-2 c = let n = c.before.args.width in λ i. sym (le-leb 1 n (omega arith)) i && leb n 1024
-
-pub width-ok-spec : {M : Type 1} → statement M
-width-ok-spec = tie.close (tie.spec returns returns-2)
+pub width_ok_spec : {M : Type 1} → statement M
+width_ok_spec = tie.close (tie.spec returns-then-width-eq0 returns)

@@ -7,17 +7,17 @@ use Rattle.writeback_pixel.proofs.Checked.{told}
 use Rattle.writeback_pixel.proofs.writer_ok.Statement.{statement}
 use Rattle.writeback_pixel.proofs.writer_ok.Tie as tie
 
-width-ok-requires : tie.Need-width-ok-requires
-width-ok-requires c κs = search rules
+width_ok-requires : tie.Need-width_ok-requires
+width_ok-requires c κs = search rules
 
-siz-ok-requires : tie.Need-siz-ok-requires
-siz-ok-requires c κs = search rules
+siz_ok-requires : tie.Need-siz_ok-requires
+siz_ok-requires c κs = search rules
+
+returns-then-width_ok : tie.Need-returns-then-width_ok
+returns-then-width_ok c = let width = told c.width_ok.ensures c.if-width_ok.true in λ i. sym width i && c.siz_ok.ensures i
 
 returns : tie.Need-returns
-returns c = let width = told c.before.before.width-ok.ensures c.before.if1.true in λ i. sym width i && c.siz-ok.ensures i
+returns c = let width = told c.width_ok.ensures c.if-width_ok.false in λ i. sym width i && siz_ok c.args.writer.layout.siz
 
-returns-2 : tie.Need-returns-2
-returns-2 c = let width = told c.before.width-ok.ensures c.if1.false in λ i. sym width i && siz_ok c.before.before.args.writer.layout.siz
-
-pub writer-ok-spec : {M : Type 1} → statement M
-writer-ok-spec = tie.close (tie.spec width-ok-requires siz-ok-requires returns returns-2)
+pub writer_ok_spec : {M : Type 1} → statement M
+writer_ok_spec = tie.close (tie.spec width_ok-requires siz_ok-requires returns-then-width_ok returns)

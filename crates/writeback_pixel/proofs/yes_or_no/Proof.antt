@@ -4,11 +4,11 @@ use Rattle.writeback_pixel.specs.Refusal.{accepted}
 use Rattle.writeback_pixel.proofs.yes_or_no.Statement.{statement}
 use Rattle.writeback_pixel.proofs.yes_or_no.Tie as tie
 
+returns-then-yes : tie.Need-returns-then-yes
+returns-then-yes c = ap accepted (sym c.if-yes.true)
+
 returns : tie.Need-returns
-returns c = ap accepted (sym c.if1.true)
+returns c = ap accepted (sym c.if-yes.false)
 
-returns-2 : tie.Need-returns-2
-returns-2 c = ap accepted (sym c.if1.false)
-
-pub yes-or-no-spec : {M : Type 1} → statement M
-yes-or-no-spec = tie.close (tie.spec returns returns-2)
+pub yes_or_no_spec : {M : Type 1} → statement M
+yes_or_no_spec = tie.close (tie.spec returns-then-yes returns)

@@ -7,64 +7,64 @@ use borrow.Author.Rules.{rules}
 use Rattle.combiner_resolved.proofs.Operand.input.Statement.{statement}
 use Rattle.combiner_resolved.proofs.Operand.input.Tie as tie
 
-enum_told : tie.Need-enum-told
-enum_told c = search rules
+enum_told-1 : tie.Need-enum_told-1
+enum_told-1 c = search rules
 
-enum-told-2 : tie.Need-enum-told-2
-enum-told-2 c = search rules
+enum_told-in-ConstantShade : tie.Need-enum_told-in-ConstantShade
+enum_told-in-ConstantShade c = search rules
 
-enum-told-3 : tie.Need-enum-told-3
-enum-told-3 c = search rules
+enum_told-in-ShadeConstant : tie.Need-enum_told-in-ShadeConstant
+enum_told-in-ShadeConstant c = search rules
 
-enum-told-4 : tie.Need-enum-told-4
-enum-told-4 c = search rules
+enum_told-in-Shade : tie.Need-enum_told-in-Shade
+enum_told-in-Shade c = search rules
 
-enum-told-5 : tie.Need-enum-told-5
-enum-told-5 c = search rules
+enum_told-in-AlphaConstant : tie.Need-enum_told-in-AlphaConstant
+enum_told-in-AlphaConstant c = search rules
 
-enum-told-6 : tie.Need-enum-told-6
-enum-told-6 c = search rules
+enum_told-in-Alpha : tie.Need-enum_told-in-Alpha
+enum_told-in-Alpha c = search rules
 
 abbrev at : tie.Start → Kind → Rgba
 at s x = input_of x s.args.self.constant s.args.shade
 
-returns : tie.Need-returns
+returns-in-Constant : tie.Need-returns-in-Constant
 unfolding input_of input_by
-returns c = sym (ap (at c.before.before.before) c.enum_told.given.1)
+returns-in-Constant c = sym (ap (at c.before.before) c.in-Constant.is)
 
-returns-2 : tie.Need-returns-2
+returns-in-ConstantShade : tie.Need-returns-in-ConstantShade
 unfolding input_of input_by
-returns-2 c = sym (ap (at c.before.before.before) c.enum-told2.given.1)
+returns-in-ConstantShade c = sym (ap (at c.before.before) c.in-ConstantShade.is)
 
-returns-3 : tie.Need-returns-3
+returns-in-ShadeConstant : tie.Need-returns-in-ShadeConstant
 unfolding input_of input_by
-returns-3 c = sym (ap (at c.before.before.before) c.enum-told3.given.1)
+returns-in-ShadeConstant c = sym (ap (at c.before.before) c.in-ShadeConstant.is)
 
-returns-4 : tie.Need-returns-4
+returns-in-Shade : tie.Need-returns-in-Shade
 unfolding input_of input_by
-returns-4 c = sym (ap (at c.before.before.before) c.enum-told4.given.1)
+returns-in-Shade c = sym (ap (at c.before.before) c.in-Shade.is)
 
-returns-5 : tie.Need-returns-5
+returns-in-AlphaConstant : tie.Need-returns-in-AlphaConstant
 unfolding input_of input_by
-returns-5 c = sym (ap (at c.before.before.before) c.enum-told5.given.1)
+returns-in-AlphaConstant c = sym (ap (at c.before.before) c.in-AlphaConstant.is)
 
-returns-6 : tie.Need-returns-6
+returns-in-Alpha : tie.Need-returns-in-Alpha
 unfolding input_of input_by
-returns-6 c = sym (ap (at c.before.before.before) c.enum-told6.given.1)
+returns-in-Alpha c = sym (ap (at c.before.before) c.in-Alpha.is)
 
-pub input-spec : {M : Type 1} → statement M
-input-spec =
+pub input_spec : {M : Type 1} → statement M
+input_spec =
     tie.close
     (tie.spec
-    enum_told
-    enum-told-2
-    enum-told-3
-    enum-told-4
-    enum-told-5
-    enum-told-6
-    returns
-    returns-2
-    returns-3
-    returns-4
-    returns-5
-    returns-6)
+    enum_told-1
+    enum_told-in-ConstantShade
+    enum_told-in-ShadeConstant
+    enum_told-in-Shade
+    enum_told-in-AlphaConstant
+    enum_told-in-Alpha
+    returns-in-Constant
+    returns-in-ConstantShade
+    returns-in-ShadeConstant
+    returns-in-Shade
+    returns-in-AlphaConstant
+    returns-in-Alpha)

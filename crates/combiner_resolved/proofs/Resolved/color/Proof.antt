@@ -5,17 +5,17 @@ use borrow.Author.Rules.{rules}
 use Rattle.combiner_resolved.proofs.Resolved.color.Statement.{statement}
 use Rattle.combiner_resolved.proofs.Resolved.color.Tie as tie
 
-input-requires : tie.Need-input-requires
-input-requires c κs = search rules
+input-a-requires : tie.Need-input-a-requires
+input-a-requires c κs = search rules
 
-input-requires-2 : tie.Need-input-requires-2
-input-requires-2 c κs = search rules
+input-b-requires : tie.Need-input-b-requires
+input-b-requires c κs = search rules
 
-input-requires-3 : tie.Need-input-requires-3
-input-requires-3 c κs = search rules
+input-c-requires : tie.Need-input-c-requires
+input-c-requires c κs = search rules
 
-input-requires-4 : tie.Need-input-requires-4
-input-requires-4 c κs = search rules
+input-d-requires : tie.Need-input-d-requires
+input-d-requires c κs = search rules
 
 channels-requires : tie.Need-channels-requires
 channels-requires c κs = search rules
@@ -25,15 +25,15 @@ unfolding mixed_by
 returns c =
     let d = c.before in
     c.channels.ensures
-    ∙ (λ i. channels_of (d.before.before.before.before.before.before.input.ensures i) (d.before.before.before.before.input2.ensures i) (d.before.before.input3.ensures i) (d.input4.ensures i))
+    ∙ (λ i. channels_of (d.input-a.ensures i) (d.input-b.ensures i) (d.input-c.ensures i) (d.input-d.ensures i))
 
-pub color-spec : {M : Type 1} → statement M
-color-spec =
+pub color_spec : {M : Type 1} → statement M
+color_spec =
     tie.close
     (tie.spec
-    input-requires
-    input-requires-2
-    input-requires-3
-    input-requires-4
+    input-a-requires
+    input-b-requires
+    input-c-requires
+    input-d-requires
     channels-requires
     returns)

@@ -7,13 +7,13 @@ use Rattle.combiner.proofs.Tags.{others, colors, color_one_of}
 use Rattle.combiner_resolved.proofs.shaded.color_is_shade.Statement.{statement}
 use Rattle.combiner_resolved.proofs.shaded.color_is_shade.Tie as tie
 
-returns : tie.Need-returns
+returns-in-Shade : tie.Need-returns-in-Shade
 unfolding shade_color color_number colors
-returns c = color_one_of shade_color (3 ∷ 15 ∷ []) c.before.args.input c.match.keys1 refl
+returns-in-Shade c = color_one_of shade_color (3 ∷ 15 ∷ []) c.args.input c.in-Shade.in-Shade-own.keys1 refl
 
-returns-2 : tie.Need-returns-2
+returns-in_default : tie.Need-returns-in_default
 unfolding shade_color color_number colors
-returns-2 c = color_one_of shade_color (others 21 (3 ∷ 15 ∷ [])) c.before.args.input c.match.keys2 refl
+returns-in_default c = color_one_of shade_color (others 21 (3 ∷ 15 ∷ [])) c.args.input c.in_default.in_default-own.keys2 refl
 
-pub color-is-shade-spec : {M : Type 1} → statement M
-color-is-shade-spec = tie.close (tie.spec returns returns-2)
+pub color_is_shade_spec : {M : Type 1} → statement M
+color_is_shade_spec = tie.close (tie.spec returns-in-Shade returns-in_default)
