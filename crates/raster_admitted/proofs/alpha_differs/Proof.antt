@@ -5,17 +5,17 @@ use borrow.Author.Rules.{rules}
 use Rattle.raster_admitted.proofs.alpha_differs.Statement.{statement}
 use Rattle.raster_admitted.proofs.alpha_differs.Tie as tie
 
-enum-known-color : tie.Need-enum-known-color
-enum-known-color c = search rules
+enum_known-color : tie.Need-enum_known-color
+enum_known-color c = search rules
 
-enum_told : tie.Need-enum-told
-enum_told c = search rules
+enum_told-1 : tie.Need-enum_told-1
+enum_told-1 c = search rules
+
+returns-in_default : tie.Need-returns-in_default
+returns-in_default c = search rules
 
 returns : tie.Need-returns
-returns c = search rules
+returns c = λ i. alpha_differs c.args.alpha (sym c.in-Value.is i)
 
-returns-2 : tie.Need-returns-2
-returns-2 c = λ i. alpha_differs c.before.before.before.args.alpha (sym c.before.color.given.1 i)
-
-pub alpha-differs-spec : {M : Type 1} → statement M
-alpha-differs-spec = tie.close (tie.spec enum-known-color enum_told returns returns-2)
+pub alpha_differs_spec : {M : Type 1} → statement M
+alpha_differs_spec = tie.close (tie.spec enum_known-color enum_told-1 returns-in_default returns)

@@ -5,31 +5,31 @@ use borrow.Author.Rules.{rules}
 use Rattle.raster_admitted.proofs.alphas_differ.Statement.{statement}
 use Rattle.raster_admitted.proofs.alphas_differ.Tie as tie
 
-differs-from-requires : tie.Need-differs-from-requires
-differs-from-requires c κs = search rules
+differs_from-requires : tie.Need-differs_from-requires
+differs_from-requires c κs = search rules
+
+returns-then-differs_from : tie.Need-returns-then-differs_from
+returns-then-differs_from c = sym (or_first _ (or_first _ (sym c.differs_from.ensures ∙ c.if-differs_from.true)))
+
+differs_from-requires-2 : tie.Need-differs_from-requires-2
+differs_from-requires-2 c κs = search rules
+
+returns-then-differs_from-2 : tie.Need-returns-then-differs_from-2
+returns-then-differs_from-2 c = sym (or_first _ (or_next (sym c.differs_from.ensures ∙ c.if-differs_from.false) (sym c.differs_from-2.ensures ∙ c.if-differs_from-2.true)))
+
+differs_from-requires-3 : tie.Need-differs_from-requires-3
+differs_from-requires-3 c κs = search rules
 
 returns : tie.Need-returns
-returns c = sym (or_first _ (or_first _ (sym c.before.differs-from.ensures ∙ c.if1.true)))
+returns c = sym (or_next (or_next (sym c.differs_from.ensures ∙ c.if-differs_from.false) (sym c.differs_from-2.ensures ∙ c.if-differs_from-2.false)) (sym c.differs_from-3.ensures))
 
-differs-from-requires-2 : tie.Need-differs-from-requires-2
-differs-from-requires-2 c κs = search rules
-
-returns-2 : tie.Need-returns-2
-returns-2 c = sym (or_first _ (or_next (sym c.before.before.before.differs-from.ensures ∙ c.before.before.if1.false) (sym c.before.differs-from2.ensures ∙ c.if2.true)))
-
-differs-from-requires-3 : tie.Need-differs-from-requires-3
-differs-from-requires-3 c κs = search rules
-
-returns-3 : tie.Need-returns-3
-returns-3 c = sym (or_next (or_next (sym c.before.before.before.before.differs-from.ensures ∙ c.before.before.before.if1.false) (sym c.before.before.differs-from2.ensures ∙ c.before.if2.false)) (sym c.differs-from3.ensures))
-
-pub alphas-differ-spec : {M : Type 1} → statement M
-alphas-differ-spec =
+pub alphas_differ_spec : {M : Type 1} → statement M
+alphas_differ_spec =
     tie.close
     (tie.spec
-    differs-from-requires
-    returns
-    differs-from-requires-2
-    returns-2
-    differs-from-requires-3
-    returns-3)
+    differs_from-requires
+    returns-then-differs_from
+    differs_from-requires-2
+    returns-then-differs_from-2
+    differs_from-requires-3
+    returns)

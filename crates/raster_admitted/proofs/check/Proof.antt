@@ -12,64 +12,64 @@ use Rattle.raster_admitted.proofs.check.Statement.{statement}
 use Rattle.raster_admitted.proofs.check.Tie as tie
 
 -- check 2 is passed
-placed : (c : tie.Else1) → (let s = c.before.before.args in any (λ (v : Vertex). not (in_range v)) s.a s.b s.c ≡ false)
-placed c = sym c.before.out_of_range.ensures ∙ c.if1.false
+placed : (c : tie.Else-out_of_range) → (let s = c.args in any (λ (v : Vertex). not (in_range v)) s.a s.b s.c ≡ false)
+placed c = sym c.out_of_range.ensures ∙ c.if-out_of_range.false
 
 -- check 3 is passed: no alpha selector is Shade, or the alphas do not differ
-shaded : (c : tie.Joined2)
-    → (let s = c.before.before.before.before.before.args in uses_shade s.combiner.selectors && any (λ (v : Vertex). ne v.a s.a.a) s.a s.b s.c ≡ false)
+shaded : (c : tie.Joined-reads_shade)
+    → (let s = c.args in uses_shade s.combiner.selectors && any (λ (v : Vertex). ne v.a s.a.a) s.a s.b s.c ≡ false)
 shaded c =
     ⊎_elim
-    (λ w. not_second (uses_shade c.before.before.before.before.before.args.combiner.selectors) (sym w.1.ensures ∙ w.2.left))
-    (λ w. not_first _ (sym c.before.reads-shade.ensures ∙ w.left))
-    c.if2.branch
+    (λ w. not_second (uses_shade c.args.combiner.selectors) (sym w.shades_differ.ensures ∙ w.if-shades_differ.false))
+    (λ w. not_first _ (sym c.reads_shade.ensures ∙ w.if-reads_shade.false))
+    c.if-reads_shade.branch-raw
 
-out-of-range-requires : tie.Need-out-of-range-requires
-out-of-range-requires c κs = search rules
+out_of_range-requires : tie.Need-out_of_range-requires
+out_of_range-requires c κs = search rules
+
+returns-then-out_of_range : tie.Need-returns-then-out_of_range
+unfolding check_of
+returns-then-out_of_range c = taken _ _ _ (sym c.out_of_range.ensures ∙ c.if-out_of_range.true)
+
+reads_shade-requires : tie.Need-reads_shade-requires
+reads_shade-requires c κs = search rules
+
+shades_differ-requires : tie.Need-shades_differ-requires
+shades_differ-requires c κs = search rules
+
+returns-then-shades_differ : tie.Need-returns-then-shades_differ
+unfolding check_of
+returns-then-shades_differ c =
+    passed _ _ _ (placed c.before.before.before.before.before)
+    (taken _ _ _ (both (sym c.reads_shade.ensures ∙ c.if-reads_shade.true) (sym c.shades_differ.ensures ∙ c.if-shades_differ.true)))
+
+not_finite-requires : tie.Need-not_finite-requires
+not_finite-requires c κs = search rules
+
+returns-then-not_finite : tie.Need-returns-then-not_finite
+unfolding check_of
+returns-then-not_finite c =
+    passed _ _ _ (placed c.before.before.before.before.before) (passed _ _ _ (shaded c.before.before) (taken _ _ _ (sym c.not_finite.ensures ∙ c.if-not_finite.true)))
+
+alpha_check-requires : tie.Need-alpha_check-requires
+alpha_check-requires c κs = search rules
 
 returns : tie.Need-returns
 unfolding check_of
-returns c = taken _ _ _ (sym c.before.out_of_range.ensures ∙ c.if1.true)
-
-reads-shade-requires : tie.Need-reads-shade-requires
-reads-shade-requires c κs = search rules
-
-shades-differ-requires : tie.Need-shades-differ-requires
-shades-differ-requires c κs = search rules
-
-returns-2 : tie.Need-returns-2
-unfolding check_of
-returns-2 c =
-    passed _ _ _ (placed c.before.before.before.before.before)
-    (taken _ _ _ (both (sym c.before.before.before.reads-shade.ensures ∙ c.before.before.if2.true) (sym c.before.shades-differ.ensures ∙ c.if3.true)))
-
-not-finite-requires : tie.Need-not-finite-requires
-not-finite-requires c κs = search rules
-
-returns-3 : tie.Need-returns-3
-unfolding check_of
-returns-3 c =
-    passed _ _ _ (placed c.before.before.before.before.before) (passed _ _ _ (shaded c.before.before) (taken _ _ _ (sym c.before.not-Finite.ensures ∙ c.if4.true)))
-
-alpha-check-requires : tie.Need-alpha-check-requires
-alpha-check-requires c κs = search rules
-
-returns-4 : tie.Need-returns-4
-unfolding check_of
-returns-4 c =
+returns c =
     passed _ _ _ (placed c.before.before.before.before.before.before)
-    (passed _ _ _ (shaded c.before.before.before) (passed _ _ _ (sym c.before.before.not-Finite.ensures ∙ c.before.if4.false) c.alpha-check.ensures))
+    (passed _ _ _ (shaded c.before.before.before) (passed _ _ _ (sym c.not_finite.ensures ∙ c.if-not_finite.false) c.alpha_check.ensures))
 
-pub check-spec : {M : Type 1} → statement M
-check-spec =
+pub check_spec : {M : Type 1} → statement M
+check_spec =
     tie.close
     (tie.spec
-    out-of-range-requires
-    returns
-    reads-shade-requires
-    shades-differ-requires
-    returns-2
-    not-finite-requires
-    returns-3
-    alpha-check-requires
-    returns-4)
+    out_of_range-requires
+    returns-then-out_of_range
+    reads_shade-requires
+    shades_differ-requires
+    returns-then-shades_differ
+    not_finite-requires
+    returns-then-not_finite
+    alpha_check-requires
+    returns)

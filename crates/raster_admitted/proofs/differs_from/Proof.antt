@@ -12,14 +12,14 @@ colour-requires c κs = search rules
 color-requires : tie.Need-color-requires
 color-requires c κs = search rules
 
-alpha-differs-requires : tie.Need-alpha-differs-requires
-alpha-differs-requires c κs = search rules
+alpha_differs-requires : tie.Need-alpha_differs-requires
+alpha_differs-requires c κs = search rules
 
 returns : tie.Need-returns
 returns c =
-    let s = c.before.before.before.args in
-    c.alpha-differs.ensures ∙ ap (alpha_differs s.alpha) (c.before.color.ensures.1 ∙ ap (color_of s.combiner) c.before.before.colour.ensures)
+    let s = c.args in
+    c.alpha_differs.ensures ∙ ap (alpha_differs s.alpha) (c.color.ensures.1 ∙ ap (color_of s.combiner) c.colour.ensures)
 
-pub differs-from-spec : {M : Type 1} → statement M
-differs-from-spec =
-    tie.close (tie.spec colour-requires color-requires alpha-differs-requires returns)
+pub differs_from_spec : {M : Type 1} → statement M
+differs_from_spec =
+    tie.close (tie.spec colour-requires color-requires alpha_differs-requires returns)

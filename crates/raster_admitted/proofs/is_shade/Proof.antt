@@ -7,15 +7,15 @@ use borrow.Author.Rules.{rules}
 use Rattle.raster_admitted.proofs.is_shade.Statement.{statement}
 use Rattle.raster_admitted.proofs.is_shade.Tie as tie
 
-enum_told : tie.Need-enum-told
-enum_told c = search rules
+enum_told-1 : tie.Need-enum_told-1
+enum_told-1 c = search rules
 
-returns : tie.Need-returns
-returns c = search rules
+returns-in-Shade : tie.Need-returns-in-Shade
+returns-in-Shade c = search rules
 
-returns-2 : tie.Need-returns-2
+returns-in_default : tie.Need-returns-in_default
 unfolding alphas
-returns-2 c = alpha_one_of is_shade (others 10 (3 ∷ [])) c.before.args.input c.match.keys2 refl
+returns-in_default c = alpha_one_of is_shade (others 10 (3 ∷ [])) c.args.input c.in_default.in_default-own.keys2 refl
 
-pub is-shade-spec : {M : Type 1} → statement M
-is-shade-spec = tie.close (tie.spec enum_told returns returns-2)
+pub is_shade_spec : {M : Type 1} → statement M
+is_shade_spec = tie.close (tie.spec enum_told-1 returns-in-Shade returns-in_default)

@@ -10,109 +10,109 @@ use borrow.Author.Rules.{rules}
 use Rattle.raster_admitted.proofs.look_up.Statement.{statement}
 use Rattle.raster_admitted.proofs.look_up.Tie as tie
 
+returns-then-present-i : tie.Need-returns-then-present-i
+unfolding looked_up
+returns-then-present-i c = passed _ _ _ (not_first _ (not_first _ (le-ltb _ _ c.if-present-i.true))) refl
+
+bounds-present-i : tie.Need-bounds-present-i
+bounds-present-i c = search rules
+
+returns-then-present-i-ne1 : tie.Need-returns-then-present-i-ne1
+unfolding looked_up
+returns-then-present-i-ne1 c = let s = c.args in passed _ _ _ (not_first _ (not_second (ltb s.index (length s.present.now)) (ne_eqb _ _ c.if-present-i-ne1.true))) refl
+
+overflow_mul-at : tie.Need-overflow_mul-at
+overflow_mul-at c = search rules
+
+overflow_add-at : tie.Need-overflow_add-at
+overflow_add-at c = search rules
+
+returns-then-vertices-at : tie.Need-returns-then-vertices-at
+unfolding looked_up
+returns-then-vertices-at c =
+    let s = c.args in
+    passed _ _ _ (not_second (ltb s.index (length s.present.now) && eqb (get_or s.present.now s.index 0) 1) (lt-leb _ _ c.if-vertices-at.true)) refl
+
+offset_bounds-vertices-at : tie.Need-offset_bounds-vertices-at
+offset_bounds-vertices-at c = search rules
+
+bounds-vertices-at : tie.Need-bounds-vertices-at
+bounds-vertices-at c = search rules
+
+overflow_add-y : tie.Need-overflow_add-y
+overflow_add-y c = search rules
+
+offset_bounds-vertices-at-2 : tie.Need-offset_bounds-vertices-at-2
+offset_bounds-vertices-at-2 c = search rules
+
+bounds-vertices-at-2 : tie.Need-bounds-vertices-at-2
+bounds-vertices-at-2 c = search rules
+
+overflow_add-r : tie.Need-overflow_add-r
+overflow_add-r c = search rules
+
+offset_bounds-vertices-at-3 : tie.Need-offset_bounds-vertices-at-3
+offset_bounds-vertices-at-3 c = search rules
+
+bounds-vertices-at-3 : tie.Need-bounds-vertices-at-3
+bounds-vertices-at-3 c = search rules
+
+overflow_add-g : tie.Need-overflow_add-g
+overflow_add-g c = search rules
+
+offset_bounds-vertices-at-4 : tie.Need-offset_bounds-vertices-at-4
+offset_bounds-vertices-at-4 c = search rules
+
+bounds-vertices-at-4 : tie.Need-bounds-vertices-at-4
+bounds-vertices-at-4 c = search rules
+
+overflow_add-b : tie.Need-overflow_add-b
+overflow_add-b c = search rules
+
+offset_bounds-vertices-at-5 : tie.Need-offset_bounds-vertices-at-5
+offset_bounds-vertices-at-5 c = search rules
+
+bounds-vertices-at-5 : tie.Need-bounds-vertices-at-5
+bounds-vertices-at-5 c = search rules
+
+overflow_add-a : tie.Need-overflow_add-a
+overflow_add-a c = search rules
+
+offset_bounds-vertices-at-6 : tie.Need-offset_bounds-vertices-at-6
+offset_bounds-vertices-at-6 c = search rules
+
+bounds-vertices-at-6 : tie.Need-bounds-vertices-at-6
+bounds-vertices-at-6 c = search rules
+
 returns : tie.Need-returns
 unfolding looked_up
-returns c = passed _ _ _ (not_first _ (not_first _ (le-ltb _ _ c.if1.true))) refl
+returns c = taken _ _ _ (both (both (lt-ltb _ _ c.if-present-i.false) (eq-eqb _ _ c.if-present-i-ne1.false)) (le-leb _ _ c.if-vertices-at.false))
 
-shared-slice-read-if2 : tie.Need-shared-slice-read-if2
-shared-slice-read-if2 c = search rules
-
-returns-2 : tie.Need-returns-2
-unfolding looked_up
-returns-2 c = let s = c.before.before.before.args in passed _ _ _ (not_first _ (not_second (ltb s.index (length s.present.now)) (ne_eqb _ _ c.if2.true))) refl
-
-mul_at : tie.Need-overflow-mul-at
-mul_at c = search rules
-
-add-if3 : tie.Need-overflow-add-if3
-add-if3 c = search rules
-
-returns-3 : tie.Need-returns-3
-unfolding looked_up
-returns-3 c =
-    let s = c.before.before.before.before.args in
-    passed _ _ _ (not_second (ltb s.index (length s.present.now) && eqb (get_or s.present.now s.index 0) 1) (lt-leb _ _ c.if3.true)) refl
-
-mul-x : tie.Need-overflow-mul-x
-mul-x c = search rules
-
-shared-slice-read-x : tie.Need-shared-slice-read-x
-shared-slice-read-x c = search rules
-
-add-y : tie.Need-overflow-add-y
-add-y c = search rules
-
-mul-y : tie.Need-overflow-mul-y
-mul-y c = search rules
-
-shared-slice-read-y : tie.Need-shared-slice-read-y
-shared-slice-read-y c = search rules
-
-add_r : tie.Need-overflow-add-r
-add_r c = search rules
-
-mul-r : tie.Need-overflow-mul-r
-mul-r c = search rules
-
-shared-slice-read-r : tie.Need-shared-slice-read-r
-shared-slice-read-r c = search rules
-
-add-g : tie.Need-overflow-add-g
-add-g c = search rules
-
-mul-g : tie.Need-overflow-mul-g
-mul-g c = search rules
-
-shared-slice-read-g : tie.Need-shared-slice-read-g
-shared-slice-read-g c = search rules
-
-add-b : tie.Need-overflow-add-b
-add-b c = search rules
-
-mul-b : tie.Need-overflow-mul-b
-mul-b c = search rules
-
-shared-slice-read-b : tie.Need-shared-slice-read-b
-shared-slice-read-b c = search rules
-
-add_a : tie.Need-overflow-add-a
-add_a c = search rules
-
-mul-a : tie.Need-overflow-mul-a
-mul-a c = search rules
-
-shared-slice-read-a : tie.Need-shared-slice-read-a
-shared-slice-read-a c = search rules
-
-returns-4 : tie.Need-returns-4
-unfolding looked_up
-returns-4 c = taken _ _ _ (both (both (lt-ltb _ _ c.before.before.before.before.before.before.before.before.before.if1.false) (eq-eqb _ _ c.before.before.before.before.before.before.before.if2.false)) (le-leb _ _ c.before.before.before.before.before.before.if3.false))
-
-pub look-up-spec : {M : Type 1} → statement M
-look-up-spec =
+pub look_up_spec : {M : Type 1} → statement M
+look_up_spec =
     tie.close
     (tie.spec
-    returns
-    shared-slice-read-if2
-    returns-2
-    mul_at
-    add-if3
-    returns-3
-    mul-x
-    shared-slice-read-x
-    add-y
-    mul-y
-    shared-slice-read-y
-    add_r
-    mul-r
-    shared-slice-read-r
-    add-g
-    mul-g
-    shared-slice-read-g
-    add-b
-    mul-b
-    shared-slice-read-b
-    add_a
-    mul-a
-    shared-slice-read-a
-    returns-4)
+    returns-then-present-i
+    bounds-present-i
+    returns-then-present-i-ne1
+    overflow_mul-at
+    overflow_add-at
+    returns-then-vertices-at
+    offset_bounds-vertices-at
+    bounds-vertices-at
+    overflow_add-y
+    offset_bounds-vertices-at-2
+    bounds-vertices-at-2
+    overflow_add-r
+    offset_bounds-vertices-at-3
+    bounds-vertices-at-3
+    overflow_add-g
+    offset_bounds-vertices-at-4
+    bounds-vertices-at-4
+    overflow_add-b
+    offset_bounds-vertices-at-5
+    bounds-vertices-at-5
+    overflow_add-a
+    offset_bounds-vertices-at-6
+    bounds-vertices-at-6
+    returns)

@@ -9,22 +9,22 @@ use Rattle.raster_admitted.proofs.not_finite.Tie as tie
 finite-requires : tie.Need-finite-requires
 finite-requires c κs = search rules
 
-returns : tie.Need-returns
-returns c = sym (or_first _ (or_first _ (turned c.before.finite.ensures c.if1.true)))
+returns-then-not-finite : tie.Need-returns-then-not-finite
+returns-then-not-finite c = sym (or_first _ (or_first _ (turned c.finite.ensures c.if-not-finite.true-raw)))
 
 finite-requires-2 : tie.Need-finite-requires-2
 finite-requires-2 c κs = search rules
 
-returns-2 : tie.Need-returns-2
-returns-2 c = sym (or_first _ (or_next (turned c.before.before.before.finite.ensures c.before.before.if1.false) (turned c.before.finite2.ensures c.if2.true)))
+returns-then-not-finite-2 : tie.Need-returns-then-not-finite-2
+returns-then-not-finite-2 c = sym (or_first _ (or_next (turned c.finite.ensures c.if-not-finite.false-raw) (turned c.finite-2.ensures c.if-not-finite-2.true-raw)))
 
 finite-requires-3 : tie.Need-finite-requires-3
 finite-requires-3 c κs = search rules
 
-returns-3 : tie.Need-returns-3
-returns-3 c = sym (or_next (or_next (turned c.before.before.before.before.finite.ensures c.before.before.before.if1.false) (turned c.before.before.finite2.ensures c.before.if2.false)) (ap not (sym c.finite3.ensures)))
+returns : tie.Need-returns
+returns c = sym (or_next (or_next (turned c.finite.ensures c.if-not-finite.false-raw) (turned c.finite-2.ensures c.if-not-finite-2.false-raw)) (ap not (sym c.finite-3.ensures)))
 
-pub not-finite-spec : {M : Type 1} → statement M
-not-finite-spec =
+pub not_finite_spec : {M : Type 1} → statement M
+not_finite_spec =
     tie.close
-    (tie.spec finite-requires returns finite-requires-2 returns-2 finite-requires-3 returns-3)
+    (tie.spec finite-requires returns-then-not-finite finite-requires-2 returns-then-not-finite-2 finite-requires-3 returns)

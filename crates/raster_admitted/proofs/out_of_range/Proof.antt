@@ -6,31 +6,31 @@ use borrow.Author.Rules.{rules}
 use Rattle.raster_admitted.proofs.out_of_range.Statement.{statement}
 use Rattle.raster_admitted.proofs.out_of_range.Tie as tie
 
-in-range-requires : tie.Need-in-range-requires
-in-range-requires c κs = search rules
+in_range-requires : tie.Need-in_range-requires
+in_range-requires c κs = search rules
+
+returns-then-not-in_range : tie.Need-returns-then-not-in_range
+returns-then-not-in_range c = sym (or_first _ (or_first _ (turned c.in_range.ensures c.if-not-in_range.true-raw)))
+
+in_range-requires-2 : tie.Need-in_range-requires-2
+in_range-requires-2 c κs = search rules
+
+returns-then-not-in_range-2 : tie.Need-returns-then-not-in_range-2
+returns-then-not-in_range-2 c = sym (or_first _ (or_next (turned c.in_range.ensures c.if-not-in_range.false-raw) (turned c.in_range-2.ensures c.if-not-in_range-2.true-raw)))
+
+in_range-requires-3 : tie.Need-in_range-requires-3
+in_range-requires-3 c κs = search rules
 
 returns : tie.Need-returns
-returns c = sym (or_first _ (or_first _ (turned c.before.in-range.ensures c.if1.true)))
+returns c = sym (or_next (or_next (turned c.in_range.ensures c.if-not-in_range.false-raw) (turned c.in_range-2.ensures c.if-not-in_range-2.false-raw)) (ap not (sym c.in_range-3.ensures)))
 
-in-range-requires-2 : tie.Need-in-range-requires-2
-in-range-requires-2 c κs = search rules
-
-returns-2 : tie.Need-returns-2
-returns-2 c = sym (or_first _ (or_next (turned c.before.before.before.in-range.ensures c.before.before.if1.false) (turned c.before.in-range2.ensures c.if2.true)))
-
-in-range-requires-3 : tie.Need-in-range-requires-3
-in-range-requires-3 c κs = search rules
-
-returns-3 : tie.Need-returns-3
-returns-3 c = sym (or_next (or_next (turned c.before.before.before.before.in-range.ensures c.before.before.before.if1.false) (turned c.before.before.in-range2.ensures c.before.if2.false)) (ap not (sym c.in-range3.ensures)))
-
-pub out-of-range-spec : {M : Type 1} → statement M
-out-of-range-spec =
+pub out_of_range_spec : {M : Type 1} → statement M
+out_of_range_spec =
     tie.close
     (tie.spec
-    in-range-requires
-    returns
-    in-range-requires-2
-    returns-2
-    in-range-requires-3
-    returns-3)
+    in_range-requires
+    returns-then-not-in_range
+    in_range-requires-2
+    returns-then-not-in_range-2
+    in_range-requires-3
+    returns)

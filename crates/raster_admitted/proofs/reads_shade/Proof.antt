@@ -6,43 +6,43 @@ use borrow.Author.Rules.{rules}
 use Rattle.raster_admitted.proofs.reads_shade.Statement.{statement}
 use Rattle.raster_admitted.proofs.reads_shade.Tie as tie
 
-is-shade-requires : tie.Need-is-shade-requires
-is-shade-requires c κs = search rules
+is_shade-requires : tie.Need-is_shade-requires
+is_shade-requires c κs = search rules
+
+returns-then-is_shade : tie.Need-returns-then-is_shade
+unfolding uses_shade
+returns-then-is_shade c = sym (or_first _ (or_first _ (or_first _ (sym c.is_shade.ensures ∙ c.if-is_shade.true))))
+
+is_shade-requires-2 : tie.Need-is_shade-requires-2
+is_shade-requires-2 c κs = search rules
+
+returns-then-is_shade-2 : tie.Need-returns-then-is_shade-2
+unfolding uses_shade
+returns-then-is_shade-2 c = sym (or_first _ (or_first _ (or_next (sym c.is_shade.ensures ∙ c.if-is_shade.false) (sym c.is_shade-2.ensures ∙ c.if-is_shade-2.true))))
+
+is_shade-requires-3 : tie.Need-is_shade-requires-3
+is_shade-requires-3 c κs = search rules
+
+returns-then-is_shade-3 : tie.Need-returns-then-is_shade-3
+unfolding uses_shade
+returns-then-is_shade-3 c = sym (or_first _ (or_next (or_next (sym c.is_shade.ensures ∙ c.if-is_shade.false) (sym c.is_shade-2.ensures ∙ c.if-is_shade-2.false)) (sym c.is_shade-3.ensures ∙ c.if-is_shade-3.true)))
+
+is_shade-requires-4 : tie.Need-is_shade-requires-4
+is_shade-requires-4 c κs = search rules
 
 returns : tie.Need-returns
 unfolding uses_shade
-returns c = sym (or_first _ (or_first _ (or_first _ (sym c.before.is-shade.ensures ∙ c.if1.true))))
+returns c = sym (or_next (or_next (or_next (sym c.is_shade.ensures ∙ c.if-is_shade.false) (sym c.is_shade-2.ensures ∙ c.if-is_shade-2.false)) (sym c.is_shade-3.ensures ∙ c.if-is_shade-3.false)) (sym c.is_shade-4.ensures))
 
-is-shade-requires-2 : tie.Need-is-shade-requires-2
-is-shade-requires-2 c κs = search rules
-
-returns-2 : tie.Need-returns-2
-unfolding uses_shade
-returns-2 c = sym (or_first _ (or_first _ (or_next (sym c.before.before.before.is-shade.ensures ∙ c.before.before.if1.false) (sym c.before.is-shade2.ensures ∙ c.if2.true))))
-
-is-shade-requires-3 : tie.Need-is-shade-requires-3
-is-shade-requires-3 c κs = search rules
-
-returns-3 : tie.Need-returns-3
-unfolding uses_shade
-returns-3 c = sym (or_first _ (or_next (or_next (sym c.before.before.before.before.before.is-shade.ensures ∙ c.before.before.before.before.if1.false) (sym c.before.before.before.is-shade2.ensures ∙ c.before.before.if2.false)) (sym c.before.is-shade3.ensures ∙ c.if3.true)))
-
-is-shade-requires-4 : tie.Need-is-shade-requires-4
-is-shade-requires-4 c κs = search rules
-
-returns-4 : tie.Need-returns-4
-unfolding uses_shade
-returns-4 c = sym (or_next (or_next (or_next (sym c.before.before.before.before.before.before.is-shade.ensures ∙ c.before.before.before.before.before.if1.false) (sym c.before.before.before.before.is-shade2.ensures ∙ c.before.before.before.if2.false)) (sym c.before.before.is-shade3.ensures ∙ c.before.if3.false)) (sym c.is-shade4.ensures))
-
-pub reads-shade-spec : {M : Type 1} → statement M
-reads-shade-spec =
+pub reads_shade_spec : {M : Type 1} → statement M
+reads_shade_spec =
     tie.close
     (tie.spec
-    is-shade-requires
-    returns
-    is-shade-requires-2
-    returns-2
-    is-shade-requires-3
-    returns-3
-    is-shade-requires-4
-    returns-4)
+    is_shade-requires
+    returns-then-is_shade
+    is_shade-requires-2
+    returns-then-is_shade-2
+    is_shade-requires-3
+    returns-then-is_shade-3
+    is_shade-requires-4
+    returns)

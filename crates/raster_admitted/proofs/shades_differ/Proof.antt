@@ -4,14 +4,14 @@ use Rattle.raster_admitted.proofs.Choices.{or_first, or_next}
 use Rattle.raster_admitted.proofs.shades_differ.Statement.{statement}
 use Rattle.raster_admitted.proofs.shades_differ.Tie as tie
 
+returns-then-a : tie.Need-returns-then-a
+returns-then-a c = sym (or_first _ (or_first _ c.if-a.true))
+
+returns-then-b-a : tie.Need-returns-then-b-a
+returns-then-b-a c = sym (or_first _ (or_next c.if-a.false c.if-b-a.true))
+
 returns : tie.Need-returns
-returns c = sym (or_first _ (or_first _ c.if1.true))
+returns c = sym (or_next (or_next c.if-a.false c.if-b-a.false) refl)
 
-returns-2 : tie.Need-returns-2
-returns-2 c = sym (or_first _ (or_next c.before.before.before.if1.false c.if2.true))
-
-returns-3 : tie.Need-returns-3
-returns-3 c = sym (or_next (or_next c.before.before.before.before.before.if1.false c.before.before.if2.false) refl)
-
-pub shades-differ-spec : {M : Type 1} → statement M
-shades-differ-spec = tie.close (tie.spec returns returns-2 returns-3)
+pub shades_differ_spec : {M : Type 1} → statement M
+shades_differ_spec = tie.close (tie.spec returns-then-a returns-then-b-a returns)
