@@ -1,13 +1,13 @@
 -- To be believed. What a contract sees of lent slices: what they hold before the call and after it, and the frame that three of them are. Definitions only. Source: docs/RULES.md,
 -- The frame.
 use Rattle.std.specs.Prelude.{ℕ, List}
-use Rattle.std.specs.Borrow.{Bor}
+use Rattle.std.specs.Borrow.{MutBor}
 use denote.Triple.Both.{Both}
 use Rattle.frame.specs.Frame.{Frame, frame_of}
 
--- a lent slice in an `ensures`: as it was lent and as it is given back
+-- a slice that is lent to be written, in an `ensures`: as it was lent and as it is given back. Of one that is lent to be read a contract names what it holds
 abbrev pub Slice : Type 0 → Type 0
-Slice A = Both (Bor (List A)) (Bor (List A))
+Slice A = Both (MutBor (List A)) (MutBor (List A))
 
 abbrev pub old : {A : Type 0} → Slice A → List A
 old s = s.entry.now
@@ -16,7 +16,7 @@ abbrev pub new : {A : Type 0} → Slice A → List A
 new s = s.exit.now
 
 -- the lent frame in a `requires`
-abbrev pub lent : Bor (List ℕ) → Bor (List ℕ) → Bor (List ℕ) → Frame
+abbrev pub lent : MutBor (List ℕ) → MutBor (List ℕ) → MutBor (List ℕ) → Frame
 lent colors coverages marks = frame_of colors.now coverages.now marks.now
 
 -- and in an `ensures`

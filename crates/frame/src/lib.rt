@@ -3,7 +3,7 @@
 #![tactic(auto)]
 
 ghost use Rattle.std.specs.Prelude.{◌≡◌, ◌<◌, length};
-ghost use Rattle.frame.specs.Frame.{pixel_at};
+ghost use Rattle.frame.specs.Frame.{pixel_at, frame_of};
 ghost use Rattle.frame.specs.Lent.{old, new, lent, before, after};
 ghost use Rattle.frame.specs.Fits.{Long, known_pixel, put_if, stored_at, put_known};
 ghost use Rattle.frame.specs.Loads.{Loadable};
@@ -15,8 +15,8 @@ pub mod refusal; // numbers 1 to 3
 
 // The bytes of a pixel as far as they are known.
 pub fn known_pixel(colors: &[u8], coverages: &[u8], marks: &[u8], pixel: usize) -> Pixel
-    requires { Loadable (lent colors coverages marks) pixel }
-    ensures { result ≡ known_pixel (pixel_at (before colors coverages marks) pixel) }
+    requires { Loadable (frame_of colors.now coverages.now marks.now) pixel }
+    ensures { result ≡ known_pixel (pixel_at (frame_of colors.now coverages.now marks.now) pixel) }
 {
     let mark = marks[pixel];
     let color = load::known_color(colors, marks, pixel);

@@ -1,7 +1,6 @@
 // The loads of colour and coverage bytes. A byte of these two slices is loaded by `color` or by `coverage` and nowhere else. Both ask that the mark of the
 // byte's pixel says that it is known: their `marks` are there for that need alone.
 ghost use Rattle.std.specs.Prelude.{◌≡◌, cond, ◌<◌, length, get_or};
-ghost use Rattle.frame.specs.Lent.{old};
 ghost use Rattle.frame_pixel.specs.Marks.{color_marked, coverage_marked};
 ghost use Rattle.frame.specs.Loads.{ColorKnown, CoverageKnown, ColorThere, CoverageThere};
 ghost use Rattle.frame.specs.Fits.{colors_at, colors_if};
@@ -12,7 +11,7 @@ use frame_pixel::Colors;
 pub fn color(colors: &[u8], marks: &[u8], pixel: usize) -> Colors
     requires color_known { ColorKnown marks.now pixel }
     requires color_there { ColorThere colors.now marks.now pixel }
-    ensures { result ≡ colors_at (old colors) pixel }
+    ensures { result ≡ colors_at colors.now pixel }
 {
     let red_at = 3 * pixel;
     let green_at = red_at + 1;
@@ -27,7 +26,7 @@ pub fn color(colors: &[u8], marks: &[u8], pixel: usize) -> Colors
 pub fn coverage(coverages: &[u8], marks: &[u8], pixel: usize) -> u8
     requires coverage_known { CoverageKnown marks.now pixel }
     requires coverage_there { CoverageThere coverages.now marks.now pixel }
-    ensures { result ≡ get_or (old coverages) pixel 0 }
+    ensures { result ≡ get_or coverages.now pixel 0 }
 {
     coverages[pixel]
 }
@@ -36,7 +35,7 @@ pub fn coverage(coverages: &[u8], marks: &[u8], pixel: usize) -> u8
 pub fn known_color(colors: &[u8], marks: &[u8], pixel: usize) -> Colors
     requires pixel_in_bounds { pixel < length marks.now }
     requires color_there { ColorThere colors.now marks.now pixel }
-    ensures { result ≡ colors_if (color_marked (get_or (old marks) pixel 0)) (colors_at (old colors) pixel) }
+    ensures { result ≡ colors_if (color_marked (get_or marks.now pixel 0)) (colors_at colors.now pixel) }
 {
     let mark = marks[pixel];
     let known = frame_pixel::color_marked(mark);
@@ -54,7 +53,7 @@ pub fn known_color(colors: &[u8], marks: &[u8], pixel: usize) -> Colors
 pub fn known_coverage(coverages: &[u8], marks: &[u8], pixel: usize) -> u8
     requires pixel_in_bounds { pixel < length marks.now }
     requires coverage_there { CoverageThere coverages.now marks.now pixel }
-    ensures { result ≡ cond (coverage_marked (get_or (old marks) pixel 0)) (get_or (old coverages) pixel 0) 0 }
+    ensures { result ≡ cond (coverage_marked (get_or marks.now pixel 0)) (get_or coverages.now pixel 0) 0 }
 {
     let mark = marks[pixel];
     let known = frame_pixel::coverage_marked(mark);

@@ -5,21 +5,21 @@ use borrow.Author.Rules.{rules}
 use Rattle.frame.proofs.known_pixel.Statement.{statement}
 use Rattle.frame.proofs.known_pixel.Tie as tie
 
-shared-slice-read-mark : tie.Need-shared-slice-read-mark
-shared-slice-read-mark c = search rules
+bounds-marks-pixel : tie.Need-bounds-marks-pixel
+bounds-marks-pixel c = search rules
 
-known-color-requires : tie.Need-known-color-requires
-known-color-requires c κs = search rules
+known_color-color-requires : tie.Need-known_color-color-requires
+known_color-color-requires c κs = search rules
 
-known-coverage-requires : tie.Need-known-coverage-requires
-known-coverage-requires c κs = search rules
+known_coverage-coverage-requires : tie.Need-known_coverage-coverage-requires
+known_coverage-coverage-requires c κs = search rules
 
 returns : tie.Need-returns
 returns c =
-    let a = c.before.before.before.before.before.before.args in
-    known-pixel (frame_of a.colors.now a.coverages.now a.marks.now) a.pixel c.before.known-color.ensures c.known-coverage.ensures
+    let a = c.args in
+    known-pixel (frame_of a.colors.now a.coverages.now a.marks.now) a.pixel c.known_color-color.ensures c.known_coverage-coverage.ensures
 
-pub known-pixel-spec : {M : Type 1} → statement M
-known-pixel-spec =
+pub known_pixel_spec : {M : Type 1} → statement M
+known_pixel_spec =
     tie.close
-    (tie.spec shared-slice-read-mark known-color-requires known-coverage-requires returns)
+    (tie.spec bounds-marks-pixel known_color-color-requires known_coverage-coverage-requires returns)

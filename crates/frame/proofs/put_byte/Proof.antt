@@ -3,17 +3,17 @@ use borrow.Author.Rules.{rules}
 use Rattle.frame.proofs.put_byte.Statement.{statement}
 use Rattle.frame.proofs.put_byte.Tie as tie
 
-slice-write-bytes : tie.Need-slice-write-bytes
-slice-write-bytes c = search rules
+bounds-bytes-at : tie.Need-bounds-bytes-at
+bounds-bytes-at c = search rules
 
-same_length : tie.Need-same-length
-same_length c = search rules
+shape_of-bytes : tie.Need-shape_of-bytes
+shape_of-bytes c = search rules
 
-returns : tie.Need-returns
-returns c = simp c.if1.true
+returns-then-known : tie.Need-returns-then-known
+returns-then-known c = simp c.if-known.true
 
-returns-2 : tie.Need-returns-2
-returns-2 c = search rules
+returns-else-known : tie.Need-returns-else-known
+returns-else-known c = search rules
 
-pub put-byte-spec : {M : Type 1} → statement M
-put-byte-spec = tie.close (tie.spec slice-write-bytes same_length returns returns-2)
+pub put_byte_spec : {M : Type 1} → statement M
+put_byte_spec = tie.close (tie.spec bounds-bytes-at shape_of-bytes returns-then-known returns-else-known)

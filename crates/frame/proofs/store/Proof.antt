@@ -3,38 +3,38 @@ use borrow.Author.Rules.{rules}
 use Rattle.frame.proofs.store.Statement.{statement}
 use Rattle.frame.proofs.store.Tie as tie
 
-mul_at : tie.Need-overflow-mul-at
-mul_at c = search rules
+overflow_mul-at : tie.Need-overflow_mul-at
+overflow_mul-at c = search rules
 
-add-green-at : tie.Need-overflow-add-green-at
-add-green-at c = search rules
+overflow_add-green_at : tie.Need-overflow_add-green_at
+overflow_add-green_at c = search rules
 
-add-blue-at : tie.Need-overflow-add-blue-at
-add-blue-at c = search rules
+overflow_add-blue_at : tie.Need-overflow_add-blue_at
+overflow_add-blue_at c = search rules
 
-put-byte-requires : tie.Need-put-byte-requires
-put-byte-requires c κs = search rules
+put_byte-requires : tie.Need-put_byte-requires
+put_byte-requires c κs = search rules
 
-put-byte-requires-2 : tie.Need-put-byte-requires-2
-put-byte-requires-2 c κs = search rules
+put_byte-requires-2 : tie.Need-put_byte-requires-2
+put_byte-requires-2 c κs = search rules
 
-put-byte-requires-3 : tie.Need-put-byte-requires-3
-put-byte-requires-3 c κs = search rules
+put_byte-requires-3 : tie.Need-put_byte-requires-3
+put_byte-requires-3 c κs = search rules
 
-put-byte-requires-4 : tie.Need-put-byte-requires-4
-put-byte-requires-4 c κs = search rules
+put_byte-requires-4 : tie.Need-put_byte-requires-4
+put_byte-requires-4 c κs = search rules
 
-slice-write-marks : tie.Need-slice-write-marks
-slice-write-marks c = search rules
+bounds-marks-pixel : tie.Need-bounds-marks-pixel
+bounds-marks-pixel c = search rules
 
-same_length : tie.Need-same-length
-same_length c = search rules
+shape_of-colors : tie.Need-shape_of-colors
+shape_of-colors c = search rules
 
-same-length-2 : tie.Need-same-length-2
-same-length-2 c = search rules
+shape_of-coverages : tie.Need-shape_of-coverages
+shape_of-coverages c = search rules
 
-same-length-3 : tie.Need-same-length-3
-same-length-3 c = search rules
+shape_of-marks : tie.Need-shape_of-marks
+shape_of-marks c = search rules
 
 returns : tie.Need-returns
 returns c = cc
@@ -43,15 +43,15 @@ pub store_spec : {M : Type 1} → statement M
 store_spec =
     tie.close
     (tie.spec
-    mul_at
-    add-green-at
-    add-blue-at
-    put-byte-requires
-    put-byte-requires-2
-    put-byte-requires-3
-    put-byte-requires-4
-    slice-write-marks
-    same_length
-    same-length-2
-    same-length-3
+    overflow_mul-at
+    overflow_add-green_at
+    overflow_add-blue_at
+    put_byte-requires
+    put_byte-requires-2
+    put_byte-requires-3
+    put_byte-requires-4
+    bounds-marks-pixel
+    shape_of-colors
+    shape_of-coverages
+    shape_of-marks
     returns)

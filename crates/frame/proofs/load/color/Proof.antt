@@ -4,35 +4,35 @@ use borrow.Author.Rules.{rules}
 use Rattle.frame.proofs.load.color.Statement.{statement}
 use Rattle.frame.proofs.load.color.Tie as tie
 
-mul-red-at : tie.Need-overflow-mul-red-at
-mul-red-at c = omega (arith, c.requires.1 c.requires.0)
+overflow_mul-red_at : tie.Need-overflow_mul-red_at
+overflow_mul-red_at c = omega (arith, c.requires.1 c.requires.0)
 
-add-green-at : tie.Need-overflow-add-green-at
-add-green-at c = omega (arith, c.requires.1 c.requires.0)
+overflow_add-green_at : tie.Need-overflow_add-green_at
+overflow_add-green_at c = omega (arith, c.requires.1 c.requires.0)
 
-add-blue-at : tie.Need-overflow-add-blue-at
-add-blue-at c = omega (arith, c.requires.1 c.requires.0)
+overflow_add-blue_at : tie.Need-overflow_add-blue_at
+overflow_add-blue_at c = omega (arith, c.requires.1 c.requires.0)
 
-shared-slice-read-red : tie.Need-shared-slice-read-red
-shared-slice-read-red c = let s = c.before in omega (arith, s.requires.1 s.requires.0)
+bounds-colors-red_at : tie.Need-bounds-colors-red_at
+bounds-colors-red_at c = let s = c.before in omega (arith, s.requires.1 s.requires.0)
 
-shared-slice-read-green : tie.Need-shared-slice-read-green
-shared-slice-read-green c = let s = c.before.before in omega (arith, s.requires.1 s.requires.0)
+bounds-colors-green_at : tie.Need-bounds-colors-green_at
+bounds-colors-green_at c = let s = c.before.before in omega (arith, s.requires.1 s.requires.0)
 
-shared-slice-read-blue : tie.Need-shared-slice-read-blue
-shared-slice-read-blue c = let s = c.before.before.before in omega (arith, s.requires.1 s.requires.0)
+bounds-colors-blue_at : tie.Need-bounds-colors-blue_at
+bounds-colors-blue_at c = let s = c.before.before.before in omega (arith, s.requires.1 s.requires.0)
 
 returns : tie.Need-returns
 returns c = search rules
 
-pub color-spec : {M : Type 1} → statement M
-color-spec =
+pub color_spec : {M : Type 1} → statement M
+color_spec =
     tie.close
     (tie.spec
-    mul-red-at
-    add-green-at
-    add-blue-at
-    shared-slice-read-red
-    shared-slice-read-green
-    shared-slice-read-blue
+    overflow_mul-red_at
+    overflow_add-green_at
+    overflow_add-blue_at
+    bounds-colors-red_at
+    bounds-colors-green_at
+    bounds-colors-blue_at
     returns)

@@ -6,22 +6,22 @@ use borrow.Author.Rules.{rules}
 use Rattle.frame.proofs.load.known_color.Statement.{statement}
 use Rattle.frame.proofs.load.known_color.Tie as tie
 
-shared-slice-read-mark : tie.Need-shared-slice-read-mark
-shared-slice-read-mark c = search rules
+bounds-marks-pixel : tie.Need-bounds-marks-pixel
+bounds-marks-pixel c = search rules
 
-color-marked-requires : tie.Need-color-marked-requires
-color-marked-requires c κs = search rules
+color_marked-known-requires : tie.Need-color_marked-known-requires
+color_marked-known-requires c κs = search rules
 
 color-requires : tie.Need-color-requires
 color-requires c κs = (cc, search rules)
 
+returns-then-known : tie.Need-returns-then-known
+returns-then-known c = known_bytes c.color.ensures (sym c.color_marked-known.ensures ∙ c.if-known.true)
+
 returns : tie.Need-returns
-returns c = known_bytes c.color.ensures (sym c.before.before.color-marked.ensures ∙ c.before.if1.true)
+returns c = no_bytes_lem _ (sym c.color_marked-known.ensures ∙ c.if-known.false)
 
-returns-2 : tie.Need-returns-2
-returns-2 c = no_bytes_lem _ (sym c.before.color-marked.ensures ∙ c.if1.false)
-
-pub known-color-spec : {M : Type 1} → statement M
-known-color-spec =
+pub known_color_spec : {M : Type 1} → statement M
+known_color_spec =
     tie.close
-    (tie.spec shared-slice-read-mark color-marked-requires color-requires returns returns-2)
+    (tie.spec bounds-marks-pixel color_marked-known-requires color-requires returns-then-known returns)

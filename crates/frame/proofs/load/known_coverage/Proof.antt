@@ -5,22 +5,22 @@ use borrow.Author.Rules.{rules}
 use Rattle.frame.proofs.load.known_coverage.Statement.{statement}
 use Rattle.frame.proofs.load.known_coverage.Tie as tie
 
-shared-slice-read-mark : tie.Need-shared-slice-read-mark
-shared-slice-read-mark c = search rules
+bounds-marks-pixel : tie.Need-bounds-marks-pixel
+bounds-marks-pixel c = search rules
 
-coverage-marked-requires : tie.Need-coverage-marked-requires
-coverage-marked-requires c κs = search rules
+coverage_marked-known-requires : tie.Need-coverage_marked-known-requires
+coverage_marked-known-requires c κs = search rules
 
 coverage-requires : tie.Need-coverage-requires
 coverage-requires c κs = (cc, search rules)
 
+returns-then-known : tie.Need-returns-then-known
+returns-then-known c = known_byte c.coverage.ensures (sym c.coverage_marked-known.ensures ∙ c.if-known.true)
+
 returns : tie.Need-returns
-returns c = known_byte c.coverage.ensures (sym c.before.before.coverage-marked.ensures ∙ c.before.if1.true)
+returns c = no_byte _ (sym c.coverage_marked-known.ensures ∙ c.if-known.false)
 
-returns-2 : tie.Need-returns-2
-returns-2 c = no_byte _ (sym c.before.coverage-marked.ensures ∙ c.if1.false)
-
-pub known-coverage-spec : {M : Type 1} → statement M
-known-coverage-spec =
+pub known_coverage_spec : {M : Type 1} → statement M
+known_coverage_spec =
     tie.close
-    (tie.spec shared-slice-read-mark coverage-marked-requires coverage-requires returns returns-2)
+    (tie.spec bounds-marks-pixel coverage_marked-known-requires coverage-requires returns-then-known returns)

@@ -6,17 +6,17 @@ use borrow.Author.Rules.{rules}
 use Rattle.frame.proofs.refusal.lengths_ok.Statement.{statement}
 use Rattle.frame.proofs.refusal.lengths_ok.Tie as tie
 
-mul-if1 : tie.Need-overflow-mul-if1
-mul-if1 c = search rules
+overflow_mul-pixels : tie.Need-overflow_mul-pixels
+overflow_mul-pixels c = search rules
+
+returns-then-colors-pixels : tie.Need-returns-then-colors-pixels
+returns-then-colors-pixels c = stops _ (ne_eqb _ _ c.if-colors-pixels.true)
+
+returns-then-coverages-pixels : tie.Need-returns-then-coverages-pixels
+returns-then-coverages-pixels c = goes_on (eq-eqb _ _ c.if-colors-pixels.false) (stops _ (ne_eqb _ _ c.if-coverages-pixels.true))
 
 returns : tie.Need-returns
-returns c = stops _ (ne_eqb _ _ c.if1.true)
+returns c = goes_on (eq-eqb _ _ c.if-colors-pixels.false) (goes_on (eq-eqb _ _ c.if-coverages-pixels.false) refl)
 
-returns-2 : tie.Need-returns-2
-returns-2 c = goes_on (eq-eqb _ _ c.before.if1.false) (stops _ (ne_eqb _ _ c.if2.true))
-
-returns-3 : tie.Need-returns-3
-returns-3 c = goes_on (eq-eqb _ _ c.before.if1.false) (goes_on (eq-eqb _ _ c.if2.false) refl)
-
-pub lengths-ok-spec : {M : Type 1} → statement M
-lengths-ok-spec = tie.close (tie.spec mul-if1 returns returns-2 returns-3)
+pub lengths_ok_spec : {M : Type 1} → statement M
+lengths_ok_spec = tie.close (tie.spec overflow_mul-pixels returns-then-colors-pixels returns-then-coverages-pixels returns)

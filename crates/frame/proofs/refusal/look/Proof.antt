@@ -6,43 +6,43 @@ use Rattle.frame.proofs.Refusals.{marks_high, marks_unmarked, marks-marked}
 use Rattle.frame.proofs.refusal.look.Statement.{statement}
 use Rattle.frame.proofs.refusal.look.Tie as tie
 
-see-requires : tie.Need-see-requires
-see-requires c κs = tt
+see-seen-requires : tie.Need-see-seen-requires
+see-seen-requires c κs = tt
+
+returns-then-not-seen : tie.Need-returns-then-not-seen
+unfolding Tells
+returns-then-not-seen c = marks_high _ _ c.requires (was_false c.see-seen.ensures.low c.if-not-seen.true)
+
+returns-then-seen : tie.Need-returns-then-seen
+unfolding Tells
+returns-then-seen c =
+    let s = c.see-seen.ensures in
+    marks_unmarked _ _ (was_true s.low c.if-not-seen.false) (sym s.unmarked ∙ c.if-seen.true)
+
+returns-then-not-seen-2 : tie.Need-returns-then-not-seen-2
+unfolding Tells
+returns-then-not-seen-2 c = was_true c.see-seen.ensures.low c.if-not-seen.false
+
+all_low-requires : tie.Need-all_low-requires
+all_low-requires c κs = (c.requires, was_true c.see-seen.ensures.marked c.if-not-seen-2.false)
+
+returns-then-all_low : tie.Need-returns-then-all_low
+unfolding Tells
+returns-then-all_low c =
+    let e = c.before.before in
+    let s = e.before.before.before.before.before in
+    sym c.if-all_low.true
+    ∙ c.all_low.ensures
+    ∙ marks-marked _ _ s.requires (was_true s.see-seen.ensures.low e.if-not-seen.false) (was_true s.see-seen.ensures.marked e.if-not-seen-2.false)
 
 returns : tie.Need-returns
 unfolding Tells
-returns c = marks_high _ _ c.before.before.before.before.before.requires (was_false c.before.before.see.ensures.low c.if1.true)
-
-returns-2 : tie.Need-returns-2
-unfolding Tells
-returns-2 c =
-    let s = c.before.before.before.see.ensures in
-    marks_unmarked _ _ (was_true s.low c.before.if1.false) (sym s.unmarked ∙ c.if2.true)
-
-returns-3 : tie.Need-returns-3
-unfolding Tells
-returns-3 c = was_true c.before.before.before.before.before.see.ensures.low c.before.before.before.if1.false
-
-all-low-requires : tie.Need-all-low-requires
-all-low-requires c κs = (c.before.before.before.before.before.before.before.before.requires, was_true c.before.before.before.before.before.see.ensures.marked c.if3.false)
-
-returns-4 : tie.Need-returns-4
-unfolding Tells
-returns-4 c =
+returns c =
     let e = c.before.before in
     let s = e.before.before.before.before.before in
-    sym c.if4.true
-    ∙ c.before.all-low.ensures
-    ∙ marks-marked _ _ s.before.before.before.requires (was_true s.see.ensures.low e.before.before.before.if1.false) (was_true s.see.ensures.marked e.if3.false)
-
-returns-5 : tie.Need-returns-5
-unfolding Tells
-returns-5 c =
-    let e = c.before.before in
-    let s = e.before.before.before.before.before in
-    sym c.if4.false
-    ∙ c.before.all-low.ensures
-    ∙ marks-marked _ _ s.before.before.before.requires (was_true s.see.ensures.low e.before.before.before.if1.false) (was_true s.see.ensures.marked e.if3.false)
+    sym c.if-all_low.false
+    ∙ c.all_low.ensures
+    ∙ marks-marked _ _ s.requires (was_true s.see-seen.ensures.low e.if-not-seen.false) (was_true s.see-seen.ensures.marked e.if-not-seen-2.false)
 
 pub look_spec : {M : Type 1} → statement M
-look_spec = tie.close (tie.spec see-requires returns returns-2 returns-3 all-low-requires returns-4 returns-5)
+look_spec = tie.close (tie.spec see-seen-requires returns-then-not-seen returns-then-seen returns-then-not-seen-2 all_low-requires returns-then-all_low returns)

@@ -4,11 +4,11 @@ use borrow.Author.Rules.{rules}
 use Rattle.frame.proofs.refusal.mark_ok.Statement.{statement}
 use Rattle.frame.proofs.refusal.mark_ok.Tie as tie
 
-known-coverage-requires : tie.Need-known-coverage-requires
-known-coverage-requires c κs = search rules
+known_coverage-coverage-requires : tie.Need-known_coverage-coverage-requires
+known_coverage-coverage-requires c κs = search rules
 
 returns : tie.Need-returns
-returns c = mark_low _ _ c.before.before.before.requires.0.1 c.known-coverage.ensures
+returns c = mark_low _ _ c.requires.0.1 c.known_coverage-coverage.ensures
 
-pub mark-ok-spec : {M : Type 1} → statement M
-mark-ok-spec = tie.close (tie.spec known-coverage-requires returns)
+pub mark_ok_spec : {M : Type 1} → statement M
+mark_ok_spec = tie.close (tie.spec known_coverage-coverage-requires returns)

@@ -8,38 +8,38 @@ use Rattle.frame.proofs.refusal.marks_ok.Tie as tie
 look-requires : tie.Need-look-requires
 look-requires c κs = search rules
 
-enum_told : tie.Need-enum-told
-enum_told c = search rules
+enum_told-1 : tie.Need-enum_told-1
+enum_told-1 c = search rules
 
-enum-told-2 : tie.Need-enum-told-2
-enum-told-2 c = search rules
+enum_told-in-Bad : tie.Need-enum_told-in-Bad
+enum_told-in-Bad c = search rules
 
-enum-told-3 : tie.Need-enum-told-3
-enum-told-3 c = search rules
+enum_told-in-Mixed : tie.Need-enum_told-in-Mixed
+enum_told-in-Mixed c = search rules
 
-parts-ok-requires : tie.Need-parts-ok-requires
-parts-ok-requires c κs = search rules
+parts_ok-requires : tie.Need-parts_ok-requires
+parts_ok-requires c κs = search rules
 
-returns : tie.Need-returns
+returns-in-Good : tie.Need-returns-in-Good
 unfolding Tells
-returns c = subst (Tells _ _) c.enum_told.given.1 c.before.before.look.ensures
+returns-in-Good c = subst (Tells _ _) c.in-Good.is c.look.ensures
 
-returns-2 : tie.Need-returns-2
+returns-in-Bad : tie.Need-returns-in-Bad
 unfolding Tells
-returns-2 c = subst (Tells _ _) c.enum-told2.given.1 c.before.before.look.ensures
+returns-in-Bad c = subst (Tells _ _) c.in-Bad.is c.look.ensures
 
-returns-3 : tie.Need-returns-3
-returns-3 c = search rules
+returns-in-Mixed : tie.Need-returns-in-Mixed
+returns-in-Mixed c = search rules
 
-pub marks-ok-spec : {M : Type 1} → statement M
-marks-ok-spec =
+pub marks_ok_spec : {M : Type 1} → statement M
+marks_ok_spec =
     tie.close
     (tie.spec
     look-requires
-    enum_told
-    enum-told-2
-    enum-told-3
-    parts-ok-requires
-    returns
-    returns-2
-    returns-3)
+    enum_told-1
+    enum_told-in-Bad
+    enum_told-in-Mixed
+    parts_ok-requires
+    returns-in-Good
+    returns-in-Bad
+    returns-in-Mixed)

@@ -12,31 +12,31 @@ use Rattle.frame.proofs.Refusals.{found_next, found_done, every_at, marks-more, 
 use Rattle.frame.proofs.refusal.mixed_ok.Statement.{statement}
 use Rattle.frame.proofs.refusal.mixed_ok.Tie as tie
 
-abbrev invariant-loop : tie.invariant-loop
+abbrev invariant-loop : tie.invariant-loop-i
 invariant-loop coverages marks ok₀ i₀ ok i = (ok && marks_ok (drop i coverages) (drop i marks)) ≡ marks_ok coverages marks
 
-abbrev decreases-loop : tie.decreases-loop
+abbrev decreases-loop : tie.decreases-loop-i
 decreases-loop coverages marks ok₀ i₀ ok i = length marks - i
 
-loop-holds : tie.Need-loop-init invariant-loop decreases-loop
-loop-holds c = refl
+loop-i-init : tie.Need-loop-i-init invariant-loop decreases-loop
+loop-i-init c = refl
 
-mark-ok-requires : tie.Need-mark-ok-requires invariant-loop decreases-loop
-mark-ok-requires c κs = ((omega arith, leb-true _ _ (every_at (at_most highest_mark) _ _ c.before.before.before.before.requires.1 c.loop-test.true)), λ _. omega arith)
+mark_ok-good-requires : tie.Need-mark_ok-good-requires invariant-loop decreases-loop
+mark_ok-good-requires c κs = ((omega arith, leb-true _ _ (every_at (at_most highest_mark) _ _ c.requires.1 c.loop-i-test.true)), λ _. omega arith)
 
-add-i : tie.Need-overflow-add-i invariant-loop decreases-loop
-add-i c = omega arith
+overflow_add-i : tie.Need-overflow_add-i invariant-loop decreases-loop
+overflow_add-i c = omega arith
 
-loop-less : tie.Need-loop-smaller invariant-loop decreases-loop
-loop-less c = omega arith
+loop-i-smaller : tie.Need-loop-i-smaller invariant-loop decreases-loop
+loop-i-smaller c = omega arith
 
-loop-again : tie.Need-loop-preserved invariant-loop decreases-loop
-loop-again c =
+loop-i-preserved : tie.Need-loop-i-preserved invariant-loop decreases-loop
+loop-i-preserved c =
     let l = c.before.before in
-    found_next l.loop.ok _ c.mark-ok.ensures (marks-more _ _ l.before.before.before.requires.0 c.before.loop-test.true) l.loop.invariant
+    found_next l.loop-i.ok _ c.mark_ok-good.ensures (marks-more _ _ l.requires.0 c.loop-i-test.true) l.loop-i.invariant
 
 returns : tie.Need-returns invariant-loop decreases-loop
-returns c = found_done c.before.loop.ok (marks_none _ _ c.loop-test.false) c.before.loop.invariant
+returns c = found_done c.loop-i.ok (marks_none _ _ c.loop-i-test.false) c.loop-i.invariant
 
-pub mixed-ok-spec : {M : Type 1} → statement M
-mixed-ok-spec = tie.close (tie.spec invariant-loop decreases-loop loop-holds mark-ok-requires add-i loop-less loop-again returns)
+pub mixed_ok_spec : {M : Type 1} → statement M
+mixed_ok_spec = tie.close (tie.spec invariant-loop decreases-loop loop-i-init mark_ok-good-requires overflow_add-i loop-i-smaller loop-i-preserved returns)

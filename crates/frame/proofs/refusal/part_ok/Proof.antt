@@ -8,39 +8,39 @@ use Rattle.frame.proofs.refusal.part_ok.Tie as tie
 look-requires : tie.Need-look-requires
 look-requires c κs = search rules
 
-enum_told : tie.Need-enum-told
-enum_told c = search rules
+enum_told-1 : tie.Need-enum_told-1
+enum_told-1 c = search rules
 
-enum-told-2 : tie.Need-enum-told-2
-enum-told-2 c = search rules
+enum_told-in-Bad : tie.Need-enum_told-in-Bad
+enum_told-in-Bad c = search rules
 
-enum-told-3 : tie.Need-enum-told-3
-enum-told-3 c = search rules
+enum_told-in-Mixed : tie.Need-enum_told-in-Mixed
+enum_told-in-Mixed c = search rules
 
-mixed-ok-requires : tie.Need-mixed-ok-requires
+mixed_ok-requires : tie.Need-mixed_ok-requires
 unfolding Tells
-mixed-ok-requires c κs = (c.before.before.before.before.before.requires, subst (Tells _ _) c.enum-told3.given.1 c.before.before.look.ensures)
+mixed_ok-requires c κs = (c.requires, subst (Tells _ _) c.in-Mixed.is c.look.ensures)
 
-returns : tie.Need-returns
+returns-in-Good : tie.Need-returns-in-Good
 unfolding Tells
-returns c = subst (Tells _ _) c.enum_told.given.1 c.before.before.look.ensures
+returns-in-Good c = subst (Tells _ _) c.in-Good.is c.look.ensures
 
-returns-2 : tie.Need-returns-2
+returns-in-Bad : tie.Need-returns-in-Bad
 unfolding Tells
-returns-2 c = subst (Tells _ _) c.enum-told2.given.1 c.before.before.look.ensures
+returns-in-Bad c = subst (Tells _ _) c.in-Bad.is c.look.ensures
 
-returns-3 : tie.Need-returns-3
-returns-3 c = search rules
+returns-in-Mixed : tie.Need-returns-in-Mixed
+returns-in-Mixed c = search rules
 
-pub part-ok-spec : {M : Type 1} → statement M
-part-ok-spec =
+pub part_ok_spec : {M : Type 1} → statement M
+part_ok_spec =
     tie.close
     (tie.spec
     look-requires
-    enum_told
-    enum-told-2
-    enum-told-3
-    mixed-ok-requires
-    returns
-    returns-2
-    returns-3)
+    enum_told-1
+    enum_told-in-Bad
+    enum_told-in-Mixed
+    mixed_ok-requires
+    returns-in-Good
+    returns-in-Bad
+    returns-in-Mixed)

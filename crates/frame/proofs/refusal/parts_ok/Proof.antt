@@ -10,71 +10,71 @@ use Rattle.frame.proofs.Refusals.{marks_none, marks-part}
 use Rattle.frame.proofs.refusal.parts_ok.Statement.{statement}
 use Rattle.frame.proofs.refusal.parts_ok.Tie as tie
 
-abbrev invariant-loop : tie.invariant-loop
+abbrev invariant-loop : tie.invariant-loop-start
 invariant-loop coverages marks start₀ start = marks_ok (drop start coverages) (drop start marks) ≡ marks_ok coverages marks
 
-abbrev decreases-loop : tie.decreases-loop
+abbrev decreases-loop : tie.decreases-loop-start
 decreases-loop coverages marks start₀ start = length marks - start
 
-loop-holds : tie.Need-loop-init invariant-loop decreases-loop
-loop-holds c = refl
+loop-start-init : tie.Need-loop-start-init invariant-loop decreases-loop
+loop-start-init c = refl
 
-part-end-requires : tie.Need-part-end-requires invariant-loop decreases-loop
-part-end-requires c κs = omega arith
+part_end-end-requires : tie.Need-part_end-end-requires invariant-loop decreases-loop
+part_end-end-requires c κs = omega arith
 
-sub-some-coverages : tie.Need-overflow-sub-some-coverages invariant-loop decreases-loop
-sub-some-coverages c = search rules
+slice_bounds-some_coverages-count : tie.Need-slice_bounds-some_coverages-count invariant-loop decreases-loop
+slice_bounds-some_coverages-count c = search rules
 
-part-some-coverages-start : tie.Need-slice-bounds-some-coverages-start invariant-loop decreases-loop
-part-some-coverages-start c = search rules
+slice_bounds-some_coverages-start : tie.Need-slice_bounds-some_coverages-start invariant-loop decreases-loop
+slice_bounds-some_coverages-start c = search rules
 
-part-some-coverages-end : tie.Need-slice-bounds-some-coverages-end invariant-loop decreases-loop
-part-some-coverages-end c = search rules
+slice_bounds-some_coverages-end : tie.Need-slice_bounds-some_coverages-end invariant-loop decreases-loop
+slice_bounds-some_coverages-end c = search rules
 
-sub-some-marks : tie.Need-overflow-sub-some-marks invariant-loop decreases-loop
-sub-some-marks c = search rules
+slice_bounds-some_marks-count : tie.Need-slice_bounds-some_marks-count invariant-loop decreases-loop
+slice_bounds-some_marks-count c = search rules
 
-part-some-marks-start : tie.Need-slice-bounds-some-marks-start invariant-loop decreases-loop
-part-some-marks-start c = search rules
+slice_bounds-some_marks-start : tie.Need-slice_bounds-some_marks-start invariant-loop decreases-loop
+slice_bounds-some_marks-start c = search rules
 
-part-some-marks-end : tie.Need-slice-bounds-some-marks-end invariant-loop decreases-loop
-part-some-marks-end c = search rules
+slice_bounds-some_marks-end : tie.Need-slice_bounds-some_marks-end invariant-loop decreases-loop
+slice_bounds-some_marks-end c = search rules
 
-part-ok-requires : tie.Need-part-ok-requires invariant-loop decreases-loop
-part-ok-requires c κs = simp (length-take, length-drop, c.before.before.before.before.before.before.before.requires)
+part_ok-requires : tie.Need-part_ok-requires invariant-loop decreases-loop
+part_ok-requires c κs = simp (length-take, length-drop, c.requires)
+
+returns-then-not-part_ok : tie.Need-returns-then-not-part_ok invariant-loop decreases-loop
+returns-then-not-part_ok c =
+    let e = c.before.before.before.before in
+    stops _ (was_false c.part_ok.ensures c.if-not-part_ok.true-raw) ∙ sym (marks-part _ _ e.part_end-end.ensures.0) ∙ e.loop-start.invariant
+
+loop-start-smaller : tie.Need-loop-start-smaller invariant-loop decreases-loop
+loop-start-smaller c = omega arith
+
+loop-start-preserved : tie.Need-loop-start-preserved invariant-loop decreases-loop
+loop-start-preserved c =
+    let e = c.before.before.before.before in
+    goes_on (was_true c.part_ok.ensures c.if-not-part_ok.false-raw) refl ∙ sym (marks-part _ _ e.part_end-end.ensures.0) ∙ e.loop-start.invariant
 
 returns : tie.Need-returns invariant-loop decreases-loop
-returns c =
-    let e = c.before.before.before.before in
-    stops _ (was_false c.before.part-ok.ensures c.if1.true) ∙ sym (marks-part _ _ e.part-end.ensures.0) ∙ e.before.before.loop.invariant
+returns c = marks_none _ _ c.loop-start-test.false ∙ c.loop-start.invariant
 
-loop-less : tie.Need-loop-smaller invariant-loop decreases-loop
-loop-less c = omega arith
-
-loop-again : tie.Need-loop-preserved invariant-loop decreases-loop
-loop-again c =
-    let e = c.before.before.before.before in
-    goes_on (was_true c.before.part-ok.ensures c.if1.false) refl ∙ sym (marks-part _ _ e.part-end.ensures.0) ∙ e.before.before.loop.invariant
-
-returns-2 : tie.Need-returns-2 invariant-loop decreases-loop
-returns-2 c = marks_none _ _ c.loop-test.false ∙ c.before.loop.invariant
-
-pub parts-ok-spec : {M : Type 1} → statement M
-parts-ok-spec =
+pub parts_ok_spec : {M : Type 1} → statement M
+parts_ok_spec =
     tie.close
     (tie.spec
     invariant-loop
     decreases-loop
-    loop-holds
-    part-end-requires
-    sub-some-coverages
-    part-some-coverages-start
-    part-some-coverages-end
-    sub-some-marks
-    part-some-marks-start
-    part-some-marks-end
-    part-ok-requires
-    returns
-    loop-less
-    loop-again
-    returns-2)
+    loop-start-init
+    part_end-end-requires
+    slice_bounds-some_coverages-count
+    slice_bounds-some_coverages-start
+    slice_bounds-some_coverages-end
+    slice_bounds-some_marks-count
+    slice_bounds-some_marks-start
+    slice_bounds-some_marks-end
+    part_ok-requires
+    returns-then-not-part_ok
+    loop-start-smaller
+    loop-start-preserved
+    returns)

@@ -5,11 +5,11 @@ use mathlib.Core.Path.{refl}
 use Rattle.frame.proofs.refusal.size_ok.Statement.{statement}
 use Rattle.frame.proofs.refusal.size_ok.Tie as tie
 
+returns-then-n-lt1 : tie.Need-returns-then-n-lt1
+returns-then-n-lt1 c = stops _ (lt-leb _ _ c.if-n-lt1.true)
+
 returns : tie.Need-returns
-returns c = stops _ (lt-leb _ _ c.if1.true)
+returns c = goes_on (le-leb _ _ c.if-n-lt1.false) refl
 
-returns-2 : tie.Need-returns-2
-returns-2 c = goes_on (le-leb _ _ c.if1.false) refl
-
-pub size-ok-spec : {M : Type 1} → statement M
-size-ok-spec = tie.close (tie.spec returns returns-2)
+pub size_ok_spec : {M : Type 1} → statement M
+size_ok_spec = tie.close (tie.spec returns-then-n-lt1 returns)
