@@ -1,5 +1,3 @@
-#![tactic(auto)]
-
 // The rectangle of writeback.rs `rasterize`: whether a quarter of a pixel lies between two of its sides, and its edges as those of a triangle. A side is any f32, a NaN or an
 // infinity too.
 #![tactic(auto)]
