@@ -2,7 +2,7 @@
 use Rattle.std.specs.Prelude.{ℕ, Bool, Float}
 use Rattle.state.specs.declared.CombinerUniform.{CombinerUniform}
 use Rattle.raster_pixel.specs.declared.Scissor.{Scissor}
-use Rattle.frame.specs.Lent.{Slice}
+use Rattle.frame.specs.Lent.{Shown}
 use Rattle.frame_draw.specs.Draw.{DrawArgs, DrawAnswer, draw_of}
 use Rattle.words_read.specs.Read.{ReadArgs, WordAnswer, read_args}
 use Rattle.words_run.specs.Run.{RunAnswer}
@@ -20,7 +20,7 @@ use Rattle.c_frame.specs.declared.emitted.ListedAnswer.{ListedAnswer}
 use Rattle.c_answers.specs.Answers.{two_bytes}
 
 -- the draw and the read that C's values ask for
-abbrev pub draw_from : Mode → CombinerUniform → Bool → Scissor → GeometryParts → Slice Float → Slice ℕ → Slice ℕ → DrawArgs
+abbrev pub draw_from : Mode → CombinerUniform → Bool → Scissor → GeometryParts → Shown Float → Shown ℕ → Shown ℕ → DrawArgs
 draw_from mode uniform cull scissor geometry vertices present indices =
     draw_of (mode_of mode) uniform cull scissor (geometry_from geometry) vertices present indices
 

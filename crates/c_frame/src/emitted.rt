@@ -1,6 +1,7 @@
 // The C interface of the emitted pixels of a draw, over plain values: one by its place, and a run of them into two lent slices.
+ghost use Rattle.frame.specs.Frame.{frame_of};
 ghost use Rattle.std.specs.Prelude.{◌≡◌, List, ℕ};
-ghost use Rattle.frame.specs.Lent.{old, new, before};
+ghost use Rattle.frame.specs.Lent.{old, new};
 ghost use Rattle.frame_emitted.specs.Emitted.{pixel_means, emitted_answer};
 ghost use Rattle.frame_emitted.specs.Run.{pixels_means, emitted_run};
 ghost use Rattle.c_frame.specs.Frames.{draw_from, pixel_answer, listed_answer};
@@ -86,7 +87,7 @@ pub fn emitted_pixel(
     indices: &[u32],
     k: u64,
 ) -> EmittedAnswer
-    ensures { result ≡ pixel_answer (emitted_answer (draw_from mode uniform cull scissor geometry vertices present indices) width height (before colors coverages marks) k) }
+    ensures { result ≡ pixel_answer (emitted_answer (draw_from mode uniform cull scissor geometry vertices present indices) width height (frame_of colors.now coverages.now marks.now) k) }
 {
     let m = render_mode(mode);
     let g = geometry_of(geometry);
@@ -130,11 +131,11 @@ pub fn emitted_pixels(
     masks: &mut [u8],
 ) -> ListedAnswer
     ensures answer { let d = draw_from mode uniform cull scissor geometry vertices present indices in
-        result ≡ listed_answer (emitted_run d width height (before colors coverages marks) first (old pixels) (old masks)) }
+        result ≡ listed_answer (emitted_run d width height (frame_of colors.now coverages.now marks.now) first (old pixels) (old masks)) }
     ensures pixels { let d = draw_from mode uniform cull scissor geometry vertices present indices in
-        new pixels ≡ (emitted_run d width height (before colors coverages marks) first (old pixels) (old masks)).pixels }
+        new pixels ≡ (emitted_run d width height (frame_of colors.now coverages.now marks.now) first (old pixels) (old masks)).pixels }
     ensures masks { let d = draw_from mode uniform cull scissor geometry vertices present indices in
-        new masks ≡ (emitted_run d width height (before colors coverages marks) first (old pixels) (old masks)).masks }
+        new masks ≡ (emitted_run d width height (frame_of colors.now coverages.now marks.now) first (old pixels) (old masks)).masks }
 {
     let m = render_mode(mode);
     let g = geometry_of(geometry);

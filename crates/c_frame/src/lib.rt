@@ -2,6 +2,7 @@
 // gives the calls their C names.
 #![tactic(auto)]
 
+ghost use Rattle.frame.specs.Frame.{frame_of};
 ghost use Rattle.std.specs.Prelude.{◌≡◌, []};
 ghost use Rattle.frame.specs.Lent.{old, new, before, after};
 ghost use Rattle.frame_draw.specs.Draw.{drawn_means, draw_answer, draw_frame};
@@ -138,7 +139,7 @@ pub fn read_word(
     rgb_dither: u8,
     big_endian: bool,
 ) -> Answer
-    ensures { result ≡ word_answer (read_answer (read_from pixel fmt siz rgb_dither big_endian) width height (before colors coverages marks)) }
+    ensures { result ≡ word_answer (read_answer (read_from pixel fmt siz rgb_dither big_endian) width height (frame_of colors.now coverages.now marks.now)) }
 {
     let order = byte_order(big_endian);
     word(words_read::read_word(
@@ -160,9 +161,9 @@ pub fn read_words(
     words: &mut [u8],
     numbers: &mut [u8],
 ) -> RanAnswer
-    ensures answer { result ≡ ran_answer (run_answer (read_from first fmt siz rgb_dither big_endian) width height (before colors coverages marks) (old words) (old numbers)) }
-    ensures words { new words ≡ (run_answer (read_from first fmt siz rgb_dither big_endian) width height (before colors coverages marks) (old words) (old numbers)).words }
-    ensures numbers { new numbers ≡ (run_answer (read_from first fmt siz rgb_dither big_endian) width height (before colors coverages marks) (old words) (old numbers)).numbers }
+    ensures answer { result ≡ ran_answer (run_answer (read_from first fmt siz rgb_dither big_endian) width height (frame_of colors.now coverages.now marks.now) (old words) (old numbers)) }
+    ensures words { new words ≡ (run_answer (read_from first fmt siz rgb_dither big_endian) width height (frame_of colors.now coverages.now marks.now) (old words) (old numbers)).words }
+    ensures numbers { new numbers ≡ (run_answer (read_from first fmt siz rgb_dither big_endian) width height (frame_of colors.now coverages.now marks.now) (old words) (old numbers)).numbers }
 {
     let order = byte_order(big_endian);
     let answer = words_run::read_words(

@@ -1,4 +1,5 @@
 // The C interface of the frame: a draw, its emitted pixels, a word read and a run of words over three lent slices of colour bytes, coverages and marks.
+ghost use Rattle.frame.specs.Frame.{frame_of};
 ghost use Rattle.std.specs.Prelude.{◌≡◌};
 ghost use Rattle.frame.specs.Lent.{old, new, before, after};
 ghost use Rattle.frame_draw.specs.Draw.{draw_answer, draw_frame};
@@ -60,7 +61,7 @@ pub extern "C" fn wb_emitted_pixel(
     indices: &[u32],
     k: u64,
 ) -> EmittedAnswer
-    ensures { result ≡ pixel_answer (emitted_answer (draw_from mode uniform cull scissor geometry vertices present indices) width height (before colors coverages marks) k) }
+    ensures { result ≡ pixel_answer (emitted_answer (draw_from mode uniform cull scissor geometry vertices present indices) width height (frame_of colors.now coverages.now marks.now) k) }
 {
     c_frame::emitted::emitted_pixel(
         engine, width, height, colors, coverages, marks, mode, uniform, cull, scissor, geometry,
@@ -89,11 +90,11 @@ pub extern "C" fn wb_emitted_pixels(
     masks: &mut [u8],
 ) -> ListedAnswer
     ensures answer { let d = draw_from mode uniform cull scissor geometry vertices present indices in
-        result ≡ listed_answer (emitted_run d width height (before colors coverages marks) first (old pixels) (old masks)) }
+        result ≡ listed_answer (emitted_run d width height (frame_of colors.now coverages.now marks.now) first (old pixels) (old masks)) }
     ensures pixels { let d = draw_from mode uniform cull scissor geometry vertices present indices in
-        new pixels ≡ (emitted_run d width height (before colors coverages marks) first (old pixels) (old masks)).pixels }
+        new pixels ≡ (emitted_run d width height (frame_of colors.now coverages.now marks.now) first (old pixels) (old masks)).pixels }
     ensures masks { let d = draw_from mode uniform cull scissor geometry vertices present indices in
-        new masks ≡ (emitted_run d width height (before colors coverages marks) first (old pixels) (old masks)).masks }
+        new masks ≡ (emitted_run d width height (frame_of colors.now coverages.now marks.now) first (old pixels) (old masks)).masks }
 {
     c_frame::emitted::emitted_pixels(
         engine, width, height, colors, coverages, marks, mode, uniform, cull, scissor, geometry,
@@ -114,7 +115,7 @@ pub extern "C" fn wb_read_word(
     rgb_dither: u8,
     big_endian: bool,
 ) -> Answer
-    ensures { result ≡ word_answer (read_answer (read_from pixel fmt siz rgb_dither big_endian) width height (before colors coverages marks)) }
+    ensures { result ≡ word_answer (read_answer (read_from pixel fmt siz rgb_dither big_endian) width height (frame_of colors.now coverages.now marks.now)) }
 {
     c_frame::read_word(
         width, height, colors, coverages, marks, pixel, fmt, siz, rgb_dither, big_endian,
@@ -136,9 +137,9 @@ pub extern "C" fn wb_read_words(
     words: &mut [u8],
     numbers: &mut [u8],
 ) -> RanAnswer
-    ensures answer { result ≡ ran_answer (run_answer (read_from first fmt siz rgb_dither big_endian) width height (before colors coverages marks) (old words) (old numbers)) }
-    ensures words { new words ≡ (run_answer (read_from first fmt siz rgb_dither big_endian) width height (before colors coverages marks) (old words) (old numbers)).words }
-    ensures numbers { new numbers ≡ (run_answer (read_from first fmt siz rgb_dither big_endian) width height (before colors coverages marks) (old words) (old numbers)).numbers }
+    ensures answer { result ≡ ran_answer (run_answer (read_from first fmt siz rgb_dither big_endian) width height (frame_of colors.now coverages.now marks.now) (old words) (old numbers)) }
+    ensures words { new words ≡ (run_answer (read_from first fmt siz rgb_dither big_endian) width height (frame_of colors.now coverages.now marks.now) (old words) (old numbers)).words }
+    ensures numbers { new numbers ≡ (run_answer (read_from first fmt siz rgb_dither big_endian) width height (frame_of colors.now coverages.now marks.now) (old words) (old numbers)).numbers }
 {
     c_frame::read_words(
         width, height, colors, coverages, marks, first, fmt, siz, rgb_dither, big_endian, words,

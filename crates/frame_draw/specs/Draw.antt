@@ -14,7 +14,7 @@ use Rattle.raster_pixel.specs.Emitted.{Emit, geometry_emits}
 use Rattle.frame_draw.specs.declared.Drawn.{Drawn}
 use Rattle.frame_draw.specs.declared.Drawn.TheVariants.{Emitted, Refused}
 use Rattle.frame.specs.Frame.{Frame}
-use Rattle.frame.specs.Lent.{Slice, old}
+use Rattle.frame.specs.Lent.{Shown, shown}
 use Rattle.frame_paint.specs.Steps.{draw_list}
 use Rattle.frame_draw.specs.Checks.{entry_refusal}
 
@@ -43,9 +43,9 @@ draw_args mode uniform cull scissor geometry vertices present indices =
     }
 
 -- the draw that a call is given, its three slices as they were lent
-abbrev pub draw_of : RenderMode → CombinerUniform → Bool → Scissor → Geometry → Slice Float → Slice ℕ → Slice ℕ → DrawArgs
+abbrev pub draw_of : RenderMode → CombinerUniform → Bool → Scissor → Geometry → Shown Float → Shown ℕ → Shown ℕ → DrawArgs
 draw_of mode uniform cull scissor geometry vertices present indices =
-    draw_args mode uniform cull scissor geometry (old vertices) (old present) (old indices)
+    draw_args mode uniform cull scissor geometry (shown vertices) (shown present) (shown indices)
 
 -- turned away with a number, or a combiner and the pixels that it emits
 pub data Plan : Type 0 where

@@ -1,11 +1,12 @@
 // A draw over the lent frame (docs/RULES.md, A draw). What it is turned away for is checked before anything is written.
 #![tactic(auto)]
 
+ghost use Rattle.frame.specs.Frame.{frame_of};
 ghost use Rattle.std.specs.Prelude.{◌≡◌, true, ◌≤◌, length};
 ghost use Rattle.raster_pixel.specs.Admitted.{admitted_of};
 ghost use Rattle.raster_pixel.specs.Area.{Sized};
 ghost use Rattle.raster_pixel.specs.Emitted.{geometry_emits};
-ghost use Rattle.frame.specs.Lent.{old, lent, before, after};
+ghost use Rattle.frame.specs.Lent.{lent, before, after};
 ghost use Rattle.frame_paint.specs.Pixel.{DrewOn, Room};
 ghost use Rattle.frame_paint.specs.Paint.{Mixed};
 ghost use Rattle.frame_draw.specs.Draw.{draw_of, drawn_means, draw_answer, draw_frame, Numbered};
@@ -52,7 +53,7 @@ pub fn accept(
     present: &[u8],
     indices: &[u32],
 ) -> Accepted
-    ensures plan { Planned (draw_of mode uniform cull scissor geometry vertices present indices) width height (before colors coverages marks) result }
+    ensures plan { Planned (draw_of mode uniform cull scissor geometry vertices present indices) width height (frame_of colors.now coverages.now marks.now) result }
 {
     let refusal = refusal::entry_refusal(
         colors, coverages, marks, width, height, scissor, vertices, present, indices,
@@ -90,7 +91,7 @@ fn rasterize_by(
     requires admitted { admitted_of combiner geometry vertices.now present.now indices.now ≡ true }
     requires sized { Sized scissor width height }
     requires room { Room width height (lent colors coverages marks) }
-    ensures drew { DrewOn mode combiner (geometry_emits mode combiner cull scissor width height (old vertices) (old present) (old indices) geometry) colors coverages marks result }
+    ensures drew { DrewOn mode combiner (geometry_emits mode combiner cull scissor width height vertices.now present.now indices.now geometry) colors coverages marks result }
 {
     match engine {
         Engine::Fast => rasterize::rasterize(

@@ -1,6 +1,6 @@
 // Why a draw is turned away: numbers 1 to 5 (docs/RULES.md, The numbers), the first that holds.
+ghost use Rattle.frame.specs.Frame.{frame_of};
 ghost use Rattle.std.specs.Prelude.{◌≡◌};
-ghost use Rattle.frame.specs.Lent.{old, before};
 ghost use Rattle.frame_draw.specs.Checks.{scissor_ok, flags_ok, inputs_ok, entry_refusal};
 
 use raster_pixel::Scissor;
@@ -27,7 +27,7 @@ fn scissor_ok(s: Scissor) -> bool
 }
 
 fn flags_ok(present: &[u8]) -> bool
-    ensures { result ≡ flags_ok (old present) }
+    ensures { result ≡ flags_ok present.now }
 {
     let mut i = 0;
     while i < present.len() {
@@ -41,7 +41,7 @@ fn flags_ok(present: &[u8]) -> bool
 }
 
 fn inputs_ok(vertices: &[f32], present: &[u8], indices: &[u32]) -> bool
-    ensures { result ≡ inputs_ok (old vertices) (old present) (old indices) }
+    ensures { result ≡ inputs_ok vertices.now present.now indices.now }
 {
     let count = present.len();
     if VERTICES < count {
@@ -71,7 +71,7 @@ pub fn entry_refusal(
     present: &[u8],
     indices: &[u32],
 ) -> u8
-    ensures { result ≡ entry_refusal (before colors coverages marks) width height scissor (old vertices) (old present) (old indices) }
+    ensures { result ≡ entry_refusal (frame_of colors.now coverages.now marks.now) width height scissor vertices.now present.now indices.now }
 {
     let refusal = frame::refusal::frame_refusal(colors, coverages, marks, width, height);
     if refusal != 0 {

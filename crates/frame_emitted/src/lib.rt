@@ -2,6 +2,7 @@
 // nothing is drawn.
 #![tactic(auto)]
 
+ghost use Rattle.frame.specs.Frame.{frame_of};
 ghost use Rattle.std.specs.Prelude.{◌≡◌, ◌+◌, ◌≤◌, min, length, get_or};
 ghost use Rattle.raster_pixel.specs.declared.Geometry.TheVariants.{Triangles};
 ghost use Rattle.raster_pixel.specs.Area.{Sized};
@@ -9,7 +10,7 @@ ghost use Rattle.raster_pixel.specs.Near.{TrianglesNear};
 ghost use Rattle.raster_emitted.specs.Listed.{ReadyIn, ListedIn};
 ghost use Rattle.raster_emitted.specs.Masked.{no_pixel};
 ghost use Rattle.raster_emitted.specs.Shapes.{geometry_masks};
-ghost use Rattle.frame.specs.Lent.{old, new, before};
+ghost use Rattle.frame.specs.Lent.{old, new};
 ghost use Rattle.frame_paint.specs.Paint.{Mixed};
 ghost use Rattle.frame_draw.specs.Draw.{draw_of};
 ghost use Rattle.frame_emitted.specs.Emitted.{pixel_means, pixel_of, emitted_answer, NumberedPixel};
@@ -73,7 +74,7 @@ fn list_by(
     requires ready { ReadyIn window 0 pixels masks }
     requires sized { Sized scissor width height × Mixed combiner }
     requires near { geometry ≡ Triangles → TrianglesNear vertices.now present.now indices.now }
-    ensures { ListedIn window (geometry_masks mode.antialias cull scissor width height (old vertices) (old present) (old indices) geometry) 0 result pixels masks }
+    ensures { ListedIn window (geometry_masks mode.antialias cull scissor width height vertices.now present.now indices.now geometry) 0 result pixels masks }
 {
     match engine {
         Engine::Fast => raster_emitted::list_pixels(
@@ -115,8 +116,8 @@ fn pixel_at(
     requires sized { Sized scissor width height × Mixed combiner }
     requires near { geometry ≡ Triangles → TrianglesNear vertices.now present.now indices.now }
     requires few { length (geometry_masks mode.antialias cull scissor width height vertices.now present.now indices.now geometry) ≤ largest_count }
-    ensures result_value { pixel_means result ≡ pixel_of (get_or (geometry_masks mode.antialias cull scissor width height (old vertices) (old present) (old indices) geometry) k no_pixel) }
-    ensures found_at { FoundAt (geometry_masks mode.antialias cull scissor width height (old vertices) (old present) (old indices) geometry) k result }
+    ensures result_value { pixel_means result ≡ pixel_of (get_or (geometry_masks mode.antialias cull scissor width height vertices.now present.now indices.now geometry) k no_pixel) }
+    ensures found_at { FoundAt (geometry_masks mode.antialias cull scissor width height vertices.now present.now indices.now geometry) k result }
 {
     let mut pixels = [0u32; 1];
     let mut masks = [0u8; 1];
@@ -164,7 +165,7 @@ pub fn emitted_pixel(
     indices: &[u32],
     k: u64,
 ) -> Emitted
-    ensures answer { pixel_means result ≡ emitted_answer (draw_of mode uniform cull scissor geometry vertices present indices) width height (before colors coverages marks) k }
+    ensures answer { pixel_means result ≡ emitted_answer (draw_of mode uniform cull scissor geometry vertices present indices) width height (frame_of colors.now coverages.now marks.now) k }
     ensures number { NumberedPixel result }
 {
     match frame_draw::accept(
@@ -200,7 +201,7 @@ fn list_from(
     requires sized { Sized scissor width height × Mixed combiner }
     requires near { geometry ≡ Triangles → TrianglesNear vertices.now present.now indices.now }
     requires few { length (geometry_masks mode.antialias cull scissor width height vertices.now present.now indices.now geometry) ≤ largest_count }
-    ensures { ListedAll (geometry_masks mode.antialias cull scissor width height (old vertices) (old present) (old indices) geometry) first result (old masks) (new pixels) (new masks) }
+    ensures { ListedAll (geometry_masks mode.antialias cull scissor width height vertices.now present.now indices.now geometry) first result (old masks) (new pixels) (new masks) }
 {
     let window = Window {
         first,
@@ -237,7 +238,7 @@ pub fn emitted_pixels(
     masks: &mut [u8],
 ) -> Listed
     ensures answer { let d = draw_of mode uniform cull scissor geometry vertices present indices in
-        pixels_means result (new pixels) (new masks) ≡ emitted_run d width height (before colors coverages marks) first (old pixels) (old masks) }
+        pixels_means result (new pixels) (new masks) ≡ emitted_run d width height (frame_of colors.now coverages.now marks.now) first (old pixels) (old masks) }
     ensures number { NumberedPixels result }
 {
     match frame_draw::accept(

@@ -3,7 +3,7 @@ ghost use Rattle.std.specs.Prelude.{◌≡◌, true, false, cond, ◌||◌, ◌+
 ghost use Rattle.raster_pixel.specs.Parts.{from};
 ghost use Rattle.frame_pixel.specs.Marks.{color_marked, mark_of};
 ghost use Rattle.frame_pixel.specs.Coloring.{over_colors};
-ghost use Rattle.frame.specs.Lent.{old, lent, before, after};
+ghost use Rattle.frame.specs.Lent.{lent, before, after};
 ghost use Rattle.frame.specs.Fits.{Long, colors_at, colors_if};
 ghost use Rattle.frame.specs.Loads.{ColorThere};
 ghost use Rattle.frame_paint.specs.Pixel.{DrewOn, Room};
@@ -28,7 +28,7 @@ fn full_known(full: Full, mark: u8, covered: bool) -> bool
 fn full_colors(colors: &[u8], marks: &[u8], full: Full, pixel: usize) -> Colors
     requires pixel_in_bounds { pixel < length marks.now }
     requires color_there { ColorThere colors.now marks.now pixel }
-    ensures { result ≡ cond full.layered (over_colors full.layer (colors_if (color_marked (get_or (old marks) pixel 0)) (colors_at (old colors) pixel))) full.own }
+    ensures { result ≡ cond full.layered (over_colors full.layer (colors_if (color_marked (get_or marks.now pixel 0)) (colors_at colors.now pixel))) full.own }
 {
     if full.layered {
         let memory = frame::load::known_color(colors, marks, pixel);

@@ -1,7 +1,7 @@
 -- Inner vocabulary. Emitted pixels in two lent slices, one for their numbers and one for their masks: what a part of a draw writes there, and how far it counts.
 -- Definitions only.
 use Rattle.std.specs.Prelude.{ℕ, ◌+◌, ◌-◌, ◌≤◌, ◌<◌, min, ◌≡◌, List, length, get_or}
-use Rattle.std.specs.Borrow.{Bor}
+use Rattle.std.specs.Borrow.{MutBor}
 use denote.Triple.Both.{Both}
 use Rattle.raster_emitted.specs.declared.slots.Window.{Window}
 use Rattle.raster_emitted.specs.Masked.{Masked, no_pixel}
@@ -33,10 +33,10 @@ pub record ListedPart (v : Window) (es : List Masked) (n m : ℕ) (before after 
   pub later : (i : ℕ) → i < length before.masks → m ≤ v.first + i → slot_at after i ≡ slot_at before i
 
 -- the same of the slices that a call is lent
-abbrev pub ReadyIn : Window → ℕ → Bor (List ℕ) → Bor (List ℕ) → Type 0
+abbrev pub ReadyIn : Window → ℕ → MutBor (List ℕ) → MutBor (List ℕ) → Type 0
 ReadyIn v n pixels masks = Ready v n (slots_of pixels.now masks.now)
 
-abbrev pub ListedIn : Window → List Masked → ℕ → ℕ → Both (Bor (List ℕ)) (Bor (List ℕ)) → Both (Bor (List ℕ)) (Bor (List ℕ)) → Type 0
+abbrev pub ListedIn : Window → List Masked → ℕ → ℕ → Both (MutBor (List ℕ)) (MutBor (List ℕ)) → Both (MutBor (List ℕ)) (MutBor (List ℕ)) → Type 0
 ListedIn v es n m pixels masks = ListedPart v es n m (slots_of pixels.entry.now masks.entry.now) (slots_of pixels.exit.now masks.exit.now)
 
 -- slots lo to hi - 1 hold pixels of this mask, slot i that of its number, and the other slots are as before
@@ -47,5 +47,5 @@ pub record Filled (number : ℕ → ℕ) (mask lo hi : ℕ) (before after : Slot
   pub below : (i : ℕ) → i < lo → slot_at after i ≡ slot_at before i
   pub above : (i : ℕ) → hi ≤ i → slot_at after i ≡ slot_at before i
 
-abbrev pub FilledIn : (ℕ → ℕ) → ℕ → ℕ → ℕ → Both (Bor (List ℕ)) (Bor (List ℕ)) → Both (Bor (List ℕ)) (Bor (List ℕ)) → Type 0
+abbrev pub FilledIn : (ℕ → ℕ) → ℕ → ℕ → ℕ → Both (MutBor (List ℕ)) (MutBor (List ℕ)) → Both (MutBor (List ℕ)) (MutBor (List ℕ)) → Type 0
 FilledIn number mask lo hi pixels masks = Filled number mask lo hi (slots_of pixels.entry.now masks.entry.now) (slots_of pixels.exit.now masks.exit.now)

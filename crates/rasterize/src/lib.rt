@@ -6,7 +6,7 @@ ghost use Rattle.std.specs.Prelude.{◌≡◌, true, ◌≤◌, length};
 ghost use Rattle.raster_pixel.specs.Admitted.{admitted_of};
 ghost use Rattle.raster_pixel.specs.Area.{Sized};
 ghost use Rattle.raster_pixel.specs.Emitted.{rectangle_emits, geometry_emits};
-ghost use Rattle.frame.specs.Lent.{old, lent};
+ghost use Rattle.frame.specs.Lent.{lent};
 ghost use Rattle.frame_paint.specs.Pixel.{DrewOn, Room};
 ghost use Rattle.frame_paint.specs.Paint.{Prepared, Mixed};
 
@@ -77,7 +77,7 @@ pub fn rasterize(
     requires admitted { admitted_of combiner geometry vertices.now present.now indices.now ≡ true }
     requires sized { Sized scissor width height }
     requires room { Room width height (lent colors coverages marks) }
-    ensures drew { DrewOn mode combiner (geometry_emits mode combiner cull scissor width height (old vertices) (old present) (old indices) geometry) colors coverages marks result }
+    ensures drew { DrewOn mode combiner (geometry_emits mode combiner cull scissor width height vertices.now present.now indices.now geometry) colors coverages marks result }
 {
     let paint = frame_paint::prepare::prepare(mode, combiner);
     match geometry {

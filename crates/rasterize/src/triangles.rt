@@ -5,7 +5,7 @@ ghost use Rattle.raster_pixel.specs.Admitted.{admitted_of, triangle_at};
 ghost use Rattle.raster_pixel.specs.Area.{Sized};
 ghost use Rattle.raster_pixel.specs.Near.{CornersNear};
 ghost use Rattle.raster_pixel.specs.Emitted.{triangle_emits, three_emits};
-ghost use Rattle.frame.specs.Lent.{old, lent};
+ghost use Rattle.frame.specs.Lent.{lent};
 ghost use Rattle.frame_paint.specs.Pixel.{DrewOn, Room};
 ghost use Rattle.frame_paint.specs.Paint.{Ready};
 ghost use Rattle.rasterize.specs.Triangles.{triangles_of};
@@ -74,7 +74,7 @@ fn draw_indexed(
     requires admitted { admitted_of paint.combiner Triangles vertices.now present.now indices.now ≡ true }
     requires sized { Sized scissor width height }
     requires room { Room width height (lent colors coverages marks) }
-    ensures drew { let three = triangle_at (old vertices) (old present) (old indices) i in
+    ensures drew { let three = triangle_at vertices.now present.now indices.now i in
         DrewOn paint.mode paint.combiner (three_emits paint.mode paint.combiner cull scissor width height three) colors coverages marks result }
 {
     let Three::Vertices(a, b, c) = raster_pixel::triangle_at(vertices, present, indices, i) else {
@@ -102,7 +102,7 @@ pub fn draw_triangles(
     requires admitted { admitted_of paint.combiner Triangles vertices.now present.now indices.now ≡ true }
     requires sized { Sized scissor width height }
     requires room { Room width height (lent colors coverages marks) }
-    ensures drew { let emitted = triangles_of paint.mode paint.combiner cull scissor width height (old vertices) (old present) (old indices) in
+    ensures drew { let emitted = triangles_of paint.mode paint.combiner cull scissor width height vertices.now present.now indices.now in
         DrewOn paint.mode paint.combiner emitted colors coverages marks result }
 {
     let count = indices.len() / 3;

@@ -1,6 +1,6 @@
 -- Inner vocabulary. What a part of a walk does with the pixels that it emits: they are drawn on the frame, if the walk draws, and go to their slots. Definitions only.
 use Rattle.std.specs.Prelude.{ℕ, ◌≤◌, ◌≡◌, true, cond, List, map, length}
-use Rattle.std.specs.Borrow.{Bor}
+use Rattle.std.specs.Borrow.{MutBor}
 use Rattle.raster_pixel.specs.Emitted.{Emit}
 use Rattle.raster_emitted.specs.Masked.{masked_of}
 use Rattle.raster_emitted.specs.Listed.{Slots, slots_of, Ready, ListedPart}
@@ -33,7 +33,7 @@ pub record Sent (v : Walk) (es : List Emit) (n m : ℕ) (f g : Frame) (s t : Slo
   pub listed : ListedPart v.window (map masked_of es) n m s t
 
 -- the same of the slices that a call is lent
-abbrev pub OpenIn : Walk → ℕ → Bor (List ℕ) → Bor (List ℕ) → Bor (List ℕ) → Bor (List ℕ) → Bor (List ℕ) → Type 0
+abbrev pub OpenIn : Walk → ℕ → MutBor (List ℕ) → MutBor (List ℕ) → MutBor (List ℕ) → MutBor (List ℕ) → MutBor (List ℕ) → Type 0
 OpenIn v n colors coverages marks pixels masks = Open v n (lent colors coverages marks) (slots_of pixels.now masks.now)
 
 abbrev pub SentIn : Walk → List Emit → ℕ → ℕ → Slice ℕ → Slice ℕ → Slice ℕ → Slice ℕ → Slice ℕ → Type 0

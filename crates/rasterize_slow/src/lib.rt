@@ -5,7 +5,7 @@
 #![tactic(auto)]
 
 ghost use Rattle.std.specs.Prelude.{◌≡◌, true, cond, ◌/◌, ◌<◌, ◌≤◌, length};
-ghost use Rattle.frame.specs.Lent.{old, lent, before, after};
+ghost use Rattle.frame.specs.Lent.{lent, before, after};
 ghost use Rattle.frame.specs.Fits.{Fit};
 ghost use Rattle.frame_paint.specs.Pixel.{Room, DrewOn, emit_of};
 ghost use Rattle.frame_paint.specs.Paint.{Mixed};
@@ -77,7 +77,7 @@ pub fn triangle(cull: bool, a: Vertex, b: Vertex, c: Vertex) -> Shape
 // Triangle i of an index list that is admitted.
 fn indexed(cull: bool, vertices: &[f32], present: &[u8], indices: &[u32], i: usize) -> Shape
     requires { (i < length indices.now / 3) × TrianglesNear vertices.now present.now indices.now }
-    ensures { result ≡ three_shape cull (triangle_at (old vertices) (old present) (old indices) i) }
+    ensures { result ≡ three_shape cull (triangle_at vertices.now present.now indices.now i) }
 {
     let Three::Vertices(a, b, c) = raster_pixel::triangle_at(vertices, present, indices, i) else {
         return Shape::Nothing;
@@ -298,7 +298,7 @@ fn visit_triangles(
 ) -> u64
     requires open { OpenIn walk 0 colors coverages marks pixels masks }
     requires near { Laid walk × TrianglesNear vertices.now present.now indices.now }
-    ensures sent { SentIn walk (triangles_emits walk cull (old vertices) (old present) (old indices)) 0 result colors coverages marks pixels masks }
+    ensures sent { SentIn walk (triangles_emits walk cull vertices.now present.now indices.now) 0 result colors coverages marks pixels masks }
 {
     let count = indices.len() / 3;
     let mut m: u64 = 0;
@@ -324,7 +324,7 @@ fn visit(
 ) -> u64
     requires open { OpenIn walk 0 colors coverages marks pixels masks }
     requires near { Laid walk × ((geometry ≡ Triangles → TrianglesNear vertices.now present.now indices.now)) }
-    ensures sent { SentIn walk (walk_emits walk cull (old vertices) (old present) (old indices) geometry) 0 result colors coverages marks pixels masks }
+    ensures sent { SentIn walk (walk_emits walk cull vertices.now present.now indices.now geometry) 0 result colors coverages marks pixels masks }
 {
     match geometry {
         Geometry::Nothing => 0,
@@ -364,7 +364,7 @@ pub fn rasterize(
     requires admitted { admitted_of combiner geometry vertices.now present.now indices.now ≡ true }
     requires sized { Sized scissor width height }
     requires room { Room width height (lent colors coverages marks) }
-    ensures drew { DrewOn mode combiner (geometry_emits mode combiner cull scissor width height (old vertices) (old present) (old indices) geometry) colors coverages marks result }
+    ensures drew { DrewOn mode combiner (geometry_emits mode combiner cull scissor width height vertices.now present.now indices.now geometry) colors coverages marks result }
 {
     let mut pixels = [0u32; 0];
     let mut masks = [0u8; 0];
@@ -415,7 +415,7 @@ pub fn list_pixels(
     requires ready { ReadyIn window 0 pixels masks }
     requires sized { Sized scissor width height × Mixed combiner }
     requires near { geometry ≡ Triangles → TrianglesNear vertices.now present.now indices.now }
-    ensures { ListedIn window (geometry_masks mode.antialias cull scissor width height (old vertices) (old present) (old indices) geometry) 0 result pixels masks }
+    ensures { ListedIn window (geometry_masks mode.antialias cull scissor width height vertices.now present.now indices.now geometry) 0 result pixels masks }
 {
     let mut colors = [0u8; 0];
     let mut coverages = [0u8; 0];

@@ -3,8 +3,7 @@
 #![tactic(auto)]
 
 ghost use Rattle.std.specs.Prelude.{◌≡◌, ◌<◌, ◌≤◌};
-ghost use Rattle.frame.specs.Frame.{pixel_at};
-ghost use Rattle.frame.specs.Lent.{lent, before};
+ghost use Rattle.frame.specs.Frame.{pixel_at, frame_of};
 ghost use Rattle.frame.specs.Loads.{ColorKnown, Loadable};
 ghost use Rattle.words_read.specs.Read.{readable, writer_by, word_by, read_args, word_means, read_answer, Numbered};
 
@@ -52,8 +51,8 @@ fn encoded(
 ) -> Bytes2
     requires layout { (writer.layout.siz ≤ 3) × (0 < writer.layout.width) }
     requires known { ColorKnown marks.now pixel }
-    requires there { Loadable (lent colors coverages marks) pixel }
-    ensures { result ≡ word_by writer pixel rgb_dither encoding (pixel_at (before colors coverages marks) pixel) }
+    requires there { Loadable (frame_of colors.now coverages.now marks.now) pixel }
+    ensures { result ≡ word_by writer pixel rgb_dither encoding (pixel_at (frame_of colors.now coverages.now marks.now) pixel) }
 {
     let color = frame::load::color(colors, marks, pixel);
     let coverage = frame::load::known_coverage(coverages, marks, pixel);
@@ -87,7 +86,7 @@ pub fn read_word(
     rgb_dither: u8,
     encoding: FramebufferEncoding,
 ) -> Word
-    ensures answer { word_means result ≡ read_answer (read_args pixel fmt siz rgb_dither encoding) width height (before colors coverages marks) }
+    ensures answer { word_means result ≡ read_answer (read_args pixel fmt siz rgb_dither encoding) width height (frame_of colors.now coverages.now marks.now) }
     ensures number { Numbered result }
 {
     let refusal = frame::refusal::frame_refusal(colors, coverages, marks, width, height);

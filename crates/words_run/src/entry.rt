@@ -1,8 +1,7 @@
 // The entries of a run of words. What does not turn on the pixel is asked before; column and row are counted along, not divided out. A colour byte is loaded
 // after number 10 let it through, and a coverage only for 16 bits, where number 10 asks its mark.
 ghost use Rattle.std.specs.Prelude.{◌≡◌, ℕ, ◌+◌, ◌*◌, ◌<◌, ◌≤◌, length, get_or};
-ghost use Rattle.frame.specs.Frame.{pixel_at};
-ghost use Rattle.frame.specs.Lent.{old, lent, before};
+ghost use Rattle.frame.specs.Frame.{pixel_at, frame_of};
 ghost use Rattle.frame.specs.Fits.{Fit};
 ghost use Rattle.frame.specs.Loads.{ColorKnown, CoverageKnown, ColorThere, Loadable};
 ghost use Rattle.words_run.specs.Run.{one_if, count_of, answers_from};
@@ -52,8 +51,8 @@ fn read_halfword(
     encoding: FramebufferEncoding,
 ) -> Bytes2
     requires known { ColorKnown marks.now pixel × CoverageKnown marks.now pixel }
-    requires there { Loadable (lent colors coverages marks) pixel }
-    ensures { result ≡ halfword place.x place.y rgb_dither encoding (color_at (old colors) pixel) (get_or (old coverages) pixel 0) }
+    requires there { Loadable (frame_of colors.now coverages.now marks.now) pixel }
+    ensures { result ≡ halfword place.x place.y rgb_dither encoding (color_at colors.now pixel) (get_or coverages.now pixel 0) }
 {
     let color = frame::load::color(colors, marks, pixel);
     let coverage = frame::load::coverage(coverages, marks, pixel);
@@ -72,7 +71,7 @@ fn read_halfword(
 fn read_byte(colors: &[u8], marks: &[u8], pixel: usize, x: usize) -> Bytes2
     requires known { ColorKnown marks.now pixel }
     requires there { ColorThere colors.now marks.now pixel }
-    ensures { result ≡ byte_of x (color_at (old colors) pixel) }
+    ensures { result ≡ byte_of x (color_at colors.now pixel) }
 {
     let color = frame::load::color(colors, marks, pixel);
     if x % 2 == 0 {
@@ -92,8 +91,8 @@ fn read_at(
     encoding: FramebufferEncoding,
 ) -> Bytes2
     requires known { ColorKnown marks.now pixel × (siz ≡ 2 → CoverageKnown marks.now pixel) }
-    requires there { Loadable (lent colors coverages marks) pixel }
-    ensures { result ≡ word_at siz place.x place.y rgb_dither encoding (color_at (old colors) pixel) (get_or (old coverages) pixel 0) }
+    requires there { Loadable (frame_of colors.now coverages.now marks.now) pixel }
+    ensures { result ≡ word_at siz place.x place.y rgb_dither encoding (color_at colors.now pixel) (get_or coverages.now pixel 0) }
 {
     if siz == 2 {
         return read_halfword(colors, coverages, marks, pixel, place, rgb_dither, encoding);
@@ -115,11 +114,11 @@ fn read_entry(
     numbers: &mut [u8],
     i: usize,
 ) -> u64
-    requires there { Loadable (lent colors coverages marks) pixel }
+    requires there { Loadable (frame_of colors.now coverages.now marks.now) pixel }
     requires below { i < length numbers.old }
     requires matched { Matched (length numbers.old) (entries_of words.old numbers.old) }
-    ensures entry { PutIn i (answer_at siz place.x place.y rgb_dither encoding (pixel_at (before colors coverages marks) pixel)) words numbers }
-    ensures count { result ≡ one_if (answer_at siz place.x place.y rgb_dither encoding (pixel_at (before colors coverages marks) pixel)).number }
+    ensures entry { PutIn i (answer_at siz place.x place.y rgb_dither encoding (pixel_at (frame_of colors.now coverages.now marks.now) pixel)) words numbers }
+    ensures count { result ≡ one_if (answer_at siz place.x place.y rgb_dither encoding (pixel_at (frame_of colors.now coverages.now marks.now) pixel)).number }
 {
     let mark = marks[pixel];
     if !words_read::is_readable(mark, siz) {
@@ -163,10 +162,10 @@ pub fn read_entries(
     count: usize,
 ) -> u64
     requires there { (0 < width) × (0 < count → first + count ≤ length marks.now) × (length marks.now ≤ 1048576) × (count ≤ length numbers.old) }
-    requires fit { Fit (length marks.now) (lent colors coverages marks) }
+    requires fit { Fit (length marks.now) (frame_of colors.now coverages.now marks.now) }
     requires matched { Matched (length numbers.old) (entries_of words.old numbers.old) }
-    ensures entries { WroteIn (λ (i : ℕ). answer_in width siz rgb_dither encoding (before colors coverages marks) (first + i)) 0 count words numbers }
-    ensures count { result ≡ count_of (answers_from (λ (i : ℕ). answer_in width siz rgb_dither encoding (before colors coverages marks) (first + i)) 0 count) }
+    ensures entries { WroteIn (λ (i : ℕ). answer_in width siz rgb_dither encoding (frame_of colors.now coverages.now marks.now) (first + i)) 0 count words numbers }
+    ensures count { result ≡ count_of (answers_from (λ (i : ℕ). answer_in width siz rgb_dither encoding (frame_of colors.now coverages.now marks.now) (first + i)) 0 count) }
 {
     let mut n: u64 = 0;
     let mut place = Place {

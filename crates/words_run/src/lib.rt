@@ -1,8 +1,9 @@
 // A run of words read from the lent frame in one go: each pixel's answer is that of its single read.
 #![tactic(auto)]
 
+ghost use Rattle.frame.specs.Frame.{frame_of};
 ghost use Rattle.std.specs.Prelude.{◌≡◌, ℕ, ◌+◌, ◌-◌, ◌*◌, ◌<◌, ◌≤◌, min, eqb, length};
-ghost use Rattle.frame.specs.Lent.{old, new, lent, before};
+ghost use Rattle.frame.specs.Lent.{old, new};
 ghost use Rattle.frame.specs.Checks.{frame_refusal};
 ghost use Rattle.words_read.specs.Read.{read_args, read_answer};
 ghost use Rattle.words_run.specs.Run.{read_at, read_answers, count_of, run_means, NumberedRun, run_answer};
@@ -62,11 +63,11 @@ fn read_there(
     numbers: &mut [u8],
     count: usize,
 ) -> u64
-    requires accepted { frame_refusal (lent colors coverages marks) width height ≡ 0 }
+    requires accepted { frame_refusal (frame_of colors.now coverages.now marks.now) width height ≡ 0 }
     requires there { (0 < count → first + count ≤ length marks.now) × (count ≤ length numbers.old) }
     requires matched { Matched (length numbers.old) (entries_of words.old numbers.old) }
-    ensures entries { WroteIn (λ (i : ℕ). read_answer (read_at (read_args first fmt siz rgb_dither encoding) i) width height (before colors coverages marks)) 0 count words numbers }
-    ensures count { result ≡ count_of (read_answers (read_args first fmt siz rgb_dither encoding) width height (before colors coverages marks) count) }
+    ensures entries { WroteIn (λ (i : ℕ). read_answer (read_at (read_args first fmt siz rgb_dither encoding) i) width height (frame_of colors.now coverages.now marks.now)) 0 count words numbers }
+    ensures count { result ≡ count_of (read_answers (read_args first fmt siz rgb_dither encoding) width height (frame_of colors.now coverages.now marks.now) count) }
 {
     let writer = words_read::writer(width, fmt, siz);
     if !words_pack::supported(writer) {
@@ -104,7 +105,7 @@ pub fn read_words(
     words: &mut [u8],
     numbers: &mut [u8],
 ) -> Run
-    ensures answer { run_means result (new words) (new numbers) ≡ run_answer (read_args first fmt siz rgb_dither encoding) width height (before colors coverages marks) (old words) (old numbers) }
+    ensures answer { run_means result (new words) (new numbers) ≡ run_answer (read_args first fmt siz rgb_dither encoding) width height (frame_of colors.now coverages.now marks.now) (old words) (old numbers) }
     ensures number { NumberedRun result }
 {
     let entries = numbers.len();
