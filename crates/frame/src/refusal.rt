@@ -103,8 +103,8 @@ fn all_low(coverages: &[u8], marks: &[u8]) -> bool
 
 // An unmarked coverage is not loaded. The mark itself was checked before.
 fn mark_ok(coverages: &[u8], marks: &[u8], i: usize) -> bool
-    requires fact_1 { (i < length marks.now) × (get_or marks.now i 0 ≤ highest_mark) }
-    requires fact_2 { CoverageThere coverages.now marks.now i }
+    requires marked { (i < length marks.now) × (get_or marks.now i 0 ≤ highest_mark) }
+    requires there { CoverageThere coverages.now marks.now i }
     ensures { result ≡ mark_ok (get_or marks.now i 0) (get_or coverages.now i 0) }
 {
     let coverage = load::known_coverage(coverages, marks, i);

@@ -75,9 +75,9 @@ fn color_of(color: Color) -> Rgba
 
 pub fn prepare(mode: RenderMode, combiner: Combiner) -> Paint
     requires { Mixed combiner }
-    ensures fact_1 { result.mode ≡ mode }
-    ensures fact_2 { result.combiner ≡ combiner }
-    ensures fact_3 { Prepared result }
+    ensures same_mode { result.mode ≡ mode }
+    ensures same_combiner { result.combiner ≡ combiner }
+    ensures prepared { Prepared result }
 {
     let resolved = combiner_resolved::resolve(combiner);
     let color = color_of(combiner.color(combiner::full_shade()));

@@ -261,8 +261,8 @@ fn color_after(
     coverage: Coverage,
     bytes: Pixel,
 ) -> Colored
-    requires fact_1 { coverage ≡ coverage_at bytes }
-    requires fact_2 { ColoringOf mode combiner source.color coloring }
+    requires told { coverage ≡ coverage_at bytes }
+    requires colored { ColoringOf mode combiner source.color coloring }
     ensures { result ≡ colored_of mode combiner source bytes }
 {
     match coloring {
@@ -316,8 +316,8 @@ fn fresh(mode: RenderMode, count: u8) -> Coverage
 
 // F5.
 fn next_coverage(mode: RenderMode, count: u8, coverage: Coverage) -> Coverage
-    requires fact_1 { (1 ≤ count) × (count ≤ 8) }
-    requires fact_2 { or_zero coverage ≤ 7 }
+    requires samples { (1 ≤ count) × (count ≤ 8) }
+    requires small { or_zero coverage ≤ 7 }
     ensures { result ≡ rule_f5 mode count coverage }
 {
     match coverage {
@@ -351,8 +351,8 @@ fn assemble(color: Colored, coverage: Coverage, old: u8) -> Pixel
 
 // F1 to F5, one by one: the bytes at an emitted pixel's place after it. Numbers 1 to 3 leave no known coverage above 7.
 pub fn rules(mode: RenderMode, combiner: Combiner, source: Source, bytes: Pixel) -> Pixel
-    requires fact_1 { (1 ≤ source.count) × (source.count ≤ 8) }
-    requires fact_2 { or_zero (coverage_at bytes) ≤ 7 }
+    requires samples { (1 ≤ source.count) × (source.count ≤ 8) }
+    requires small { or_zero (coverage_at bytes) ≤ 7 }
     ensures { result ≡ pixel_step mode combiner source bytes }
 {
     let old = bytes.coverage;
@@ -370,9 +370,9 @@ pub fn step(
     coloring: Coloring,
     bytes: Pixel,
 ) -> Pixel
-    requires fact_1 { (1 ≤ source.count) × (source.count ≤ 8) }
-    requires fact_2 { or_zero (coverage_at bytes) ≤ 7 }
-    requires fact_3 { ColoringOf mode combiner source.color coloring }
+    requires samples { (1 ≤ source.count) × (source.count ≤ 8) }
+    requires small { or_zero (coverage_at bytes) ≤ 7 }
+    requires colored { ColoringOf mode combiner source.color coloring }
     ensures { result ≡ pixel_step mode combiner source bytes }
 {
     let old = bytes.coverage;

@@ -75,9 +75,9 @@ fn up_to(v: f32, top: f32) -> f32
 // is 2^-26, so that its bits from the 26th up show its whole part. The sum is exact from 1/8 up; below that its rounding stays
 // below 2^26 + 1.
 fn nearest(y: f64) -> u64
-    requires fact_1 { HasValue y false (num y) (den y) }
-    requires fact_2 { num y ≤ 131072 * den y }
-    requires fact_3 { Coarse (num y) (den y) }
+    requires value { HasValue y false (num y) (den y) }
+    requires bounded { num y ≤ 131072 * den y }
+    requires coarse { Coarse (num y) (den y) }
     ensures { result ≡ near (num y) (den y) }
 {
     let w = y + 67108864.5;
@@ -108,8 +108,8 @@ pub fn quarter(x: f32) -> i64
 
 // The whole part of y, as `nearest` finds it.
 fn whole_part(y: f32) -> u64
-    requires fact_1 { HasValue y false (num y) (den y) }
-    requires fact_2 { num y ≤ 131072 * den y }
+    requires value { HasValue y false (num y) (den y) }
+    requires bounded { num y ≤ 131072 * den y }
     ensures { result ≡ floor (num y) (den y) }
 {
     let w = (y as f64) + 67108864.0;
