@@ -5,7 +5,7 @@ use Prim.Native.Nat.{ℕ, ◌-◌, ◌*◌, ◌^◌, ◌≤◌, ◌<◌}
 use native.Mathlib.Omega.{arith}
 use lib.Dec.{ltb, leb}
 use borrow.Author.Tests.{ltb-true}
-use Rattle.num_float.proofs.Tests.{both_left, both_right}
+use Rattle.num_float.proofs.Tests.{both_left}
 use Rattle.raster_edges.specs.declared.Edges.{Edges}
 use Rattle.raster_edges.specs.Sample.{mask_of}
 use Rattle.raster_edges.proofs.Pairs.{pair_lt}

@@ -6,37 +6,37 @@ use borrow.Author.Rules.{rules}
 use Rattle.raster_pixel.proofs.admitted.Statement.{statement}
 use Rattle.raster_pixel.proofs.admitted.Tie as tie
 
-enum_told : tie.Need-enum-told
-enum_told c = search rules
+enum_told-1 : tie.Need-enum_told-1
+enum_told-1 c = search rules
 
-enum-told-2 : tie.Need-enum-told-2
-enum-told-2 c = search rules
+enum_told-in-Rectangle : tie.Need-enum_told-in-Rectangle
+enum_told-in-Rectangle c = search rules
 
-enum-told-3 : tie.Need-enum-told-3
-enum-told-3 c = search rules
+enum_told-in-Triangles : tie.Need-enum_told-in-Triangles
+enum_told-in-Triangles c = search rules
 
-triangles-admitted-requires : tie.Need-triangles-admitted-requires
-triangles-admitted-requires c κs = search rules
+triangles_admitted-requires : tie.Need-triangles_admitted-requires
+triangles_admitted-requires c κs = search rules
 
-returns : tie.Need-returns
+returns-in-Nothing : tie.Need-returns-in-Nothing
 unfolding admitted_of
-returns c = let s = c.before.before.before.before.before.args in sym (ap (λ (g : Geometry). admitted_of s.combiner g s.vertices.now s.present.now s.indices.now) c.enum_told.given.1)
+returns-in-Nothing c = let s = c.args in sym (ap (λ (g : Geometry). admitted_of s.combiner g s.vertices.now s.present.now s.indices.now) c.in-Nothing.is)
 
-returns-2 : tie.Need-returns-2
+returns-in-Rectangle : tie.Need-returns-in-Rectangle
 unfolding admitted_of
-returns-2 c = let s = c.before.before.before.before.before.args in sym (ap (λ (g : Geometry). admitted_of s.combiner g s.vertices.now s.present.now s.indices.now) c.enum-told2.given.1)
+returns-in-Rectangle c = let s = c.args in sym (ap (λ (g : Geometry). admitted_of s.combiner g s.vertices.now s.present.now s.indices.now) c.in-Rectangle.is)
 
-returns-3 : tie.Need-returns-3
-returns-3 c = let s = c.before.before.before.before.before.before.args in c.triangles-admitted.ensures ∙ sym (ap (λ (g : Geometry). admitted_of s.combiner g s.vertices.now s.present.now s.indices.now) c.before.enum-told3.given.1)
+returns-in-Triangles : tie.Need-returns-in-Triangles
+returns-in-Triangles c = let s = c.args in c.triangles_admitted.ensures ∙ sym (ap (λ (g : Geometry). admitted_of s.combiner g s.vertices.now s.present.now s.indices.now) c.in-Triangles.is)
 
-pub admitted-spec : {M : Type 1} → statement M
-admitted-spec =
+pub admitted_spec : {M : Type 1} → statement M
+admitted_spec =
     tie.close
     (tie.spec
-    enum_told
-    enum-told-2
-    enum-told-3
-    triangles-admitted-requires
-    returns
-    returns-2
-    returns-3)
+    enum_told-1
+    enum_told-in-Rectangle
+    enum_told-in-Triangles
+    triangles_admitted-requires
+    returns-in-Nothing
+    returns-in-Rectangle
+    returns-in-Triangles)

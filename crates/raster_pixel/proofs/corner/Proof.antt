@@ -13,9 +13,9 @@ quarter-requires-2 c κs = search rules
 
 returns : tie.Need-returns
 returns c =
-    let p = back c.before.quarter.result c.before.quarter.type-inv ∙ c.before.quarter.ensures in
-    let q = back c.quarter2.result c.quarter2.type-inv ∙ c.quarter2.ensures in
+    let p = back c.quarter.result c.quarter.type_inv ∙ c.quarter.ensures in
+    let q = back c.quarter-2.result c.quarter-2.type_inv ∙ c.quarter-2.ensures in
     λ i. record { x = p i; y = q i }
 
-pub corner-spec : {M : Type 1} → statement M
-corner-spec = tie.close (tie.spec quarter-requires quarter-requires-2 returns)
+pub corner_spec : {M : Type 1} → statement M
+corner_spec = tie.close (tie.spec quarter-requires quarter-requires-2 returns)

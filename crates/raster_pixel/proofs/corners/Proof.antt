@@ -8,14 +8,14 @@ use borrow.Author.Rules.{rules}
 use Rattle.raster_pixel.proofs.corners.Statement.{statement}
 use Rattle.raster_pixel.proofs.corners.Tie as tie
 
-array-copy-out-a : tie.Need-array-copy-out-a
-array-copy-out-a c = search rules
+bounds-v-0 : tie.Need-bounds-v-0
+bounds-v-0 c = search rules
 
-array-copy-out-b : tie.Need-array-copy-out-b
-array-copy-out-b c = search rules
+bounds-v-1 : tie.Need-bounds-v-1
+bounds-v-1 c = search rules
 
-array-copy-out-c : tie.Need-array-copy-out-c
-array-copy-out-c c = search rules
+bounds-v-2 : tie.Need-bounds-v-2
+bounds-v-2 c = search rules
 
 corner-requires : tie.Need-corner-requires
 corner-requires c κs = search rules
@@ -28,17 +28,17 @@ corner-requires-3 c κs = search rules
 
 returns : tie.Need-returns
 returns c =
-    let v = c.before.before.before.before.before.before.args.t1 in
+    let v = c.args.v in
     let long : length v ≡ 3 = search rules in
-    (λ i. c.before.before.corner.ensures i ∷ c.before.corner2.ensures i ∷ c.corner3.ensures i ∷ []) ∙ map_three corner_of v long
+    (λ i. c.corner.ensures i ∷ c.corner-2.ensures i ∷ c.corner-3.ensures i ∷ []) ∙ map_three corner_of v long
 
-pub corners-spec : {M : Type 1} → statement M
-corners-spec =
+pub corners_spec : {M : Type 1} → statement M
+corners_spec =
     tie.close
     (tie.spec
-    array-copy-out-a
-    array-copy-out-b
-    array-copy-out-c
+    bounds-v-0
+    bounds-v-1
+    bounds-v-2
     corner-requires
     corner-requires-2
     corner-requires-3

@@ -5,29 +5,29 @@ use borrow.Author.Rules.{rules}
 use Rattle.raster_pixel.proofs.failing_check.Statement.{statement}
 use Rattle.raster_pixel.proofs.failing_check.Tie as tie
 
-triangle-at-requires : tie.Need-triangle-at-requires
-triangle-at-requires c κs = search rules
+triangle_at-requires : tie.Need-triangle_at-requires
+triangle_at-requires c κs = search rules
 
-enum-known-a : tie.Need-enum-known-a
-enum-known-a c = search rules
+enum_known-a : tie.Need-enum_known-a
+enum_known-a c = search rules
 
-enum_told : tie.Need-enum-told
-enum_told c = search rules
+enum_told-1 : tie.Need-enum_told-1
+enum_told-1 c = search rules
 
-returns : tie.Need-returns
+returns-in_default : tie.Need-returns-in_default
 unfolding failing
-returns c = let e = sym c.before.before.triangle-at.ensures ∙ c.enum_told.given.1 in λ i. check_three c.before.before.before.before.before.before.args.combiner (sym e i)
+returns-in_default c = let e = sym c.triangle_at.ensures ∙ c.in_default.is in λ i. check_three c.args.combiner (sym e i)
 
 check-requires : tie.Need-check-requires
 check-requires c κs = search rules
 
-returns-2 : tie.Need-returns-2
+returns : tie.Need-returns
 unfolding failing
-returns-2 c =
-    let e = sym c.before.before.before.before.triangle-at.ensures ∙ c.before.before.a.given.1 in
-    c.check.ensures ∙ (λ i. check_three c.before.before.before.before.before.before.before.before.args.combiner (sym e i))
+returns c =
+    let e = sym c.triangle_at.ensures ∙ c.in-Vertices.is in
+    c.check.ensures ∙ (λ i. check_three c.args.combiner (sym e i))
 
-pub failing-check-spec : {M : Type 1} → statement M
-failing-check-spec =
+pub failing_check_spec : {M : Type 1} → statement M
+failing_check_spec =
     tie.close
-    (tie.spec triangle-at-requires enum-known-a enum_told returns check-requires returns-2)
+    (tie.spec triangle_at-requires enum_known-a enum_told-1 returns-in_default check-requires returns)

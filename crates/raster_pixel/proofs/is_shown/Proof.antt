@@ -27,14 +27,14 @@ high m h = by (dec_le 128 m)
         let q : m / 128 ≡ 0 = omega arith in
         ap not (eq-eqb (bit_and m 128) 0 (bit ∙ ap (λ (n : ℕ). n % 2 * 128) q)) ∙ sym (lt-leb 128 m (omega arith))
 
+returns-then-mask-eq0 : tie.Need-returns-then-mask-eq0
+returns-then-mask-eq0 c = sym (not_first _ (le-ltb 0 c.args.mask (omega arith)))
+
+returns-then-antialias : tie.Need-returns-then-antialias
+returns-then-antialias c = sym (both (lt-ltb 0 c.args.mask (omega arith)) (or_first _ c.if-antialias.true))
+
 returns : tie.Need-returns
-returns c = sym (not_first _ (le-ltb 0 c.before.args.mask (omega arith)))
+returns c = sym (and_next (lt-ltb 0 c.args.mask (omega arith)) (or_next c.if-antialias.false (sym (high c.args.mask (search rules)))))
 
-returns-2 : tie.Need-returns-2
-returns-2 c = sym (both (lt-ltb 0 c.before.before.args.mask (omega arith)) (or_first _ c.if2.true))
-
-returns-3 : tie.Need-returns-3
-returns-3 c = sym (and_next (lt-ltb 0 c.before.before.args.mask (omega arith)) (or_next c.if2.false (sym (high c.before.before.args.mask (search rules)))))
-
-pub is-shown-spec : {M : Type 1} → statement M
-is-shown-spec = tie.close (tie.spec returns returns-2 returns-3)
+pub is_shown_spec : {M : Type 1} → statement M
+is_shown_spec = tie.close (tie.spec returns-then-mask-eq0 returns-then-antialias returns)

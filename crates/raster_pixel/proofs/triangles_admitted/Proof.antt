@@ -9,45 +9,45 @@ use Rattle.raster_pixel.proofs.Checked.{sound, all_whole, all_stop, all_next, al
 use Rattle.raster_pixel.proofs.triangles_admitted.Statement.{statement}
 use Rattle.raster_pixel.proofs.triangles_admitted.Tie as tie
 
-abbrev invariant-loop : tie.invariant-loop
+abbrev invariant-loop : tie.invariant-loop-i
 invariant-loop combiner vertices present indices count i₀ i = (i ≤ count) × (all (sound combiner vertices present indices) (count - i) i ≡ all (sound combiner vertices present indices) count 0)
 
-abbrev decreases-loop : tie.decreases-loop
+abbrev decreases-loop : tie.decreases-loop-i
 decreases-loop combiner vertices present indices count i₀ i = count - i
 
-loop-holds : tie.Need-loop-init invariant-loop decreases-loop
-loop-holds c = (omega arith, all_whole _ _)
+loop-i-init : tie.Need-loop-i-init invariant-loop decreases-loop
+loop-i-init c = (omega arith, all_whole _ _)
 
-failing-check-requires : tie.Need-failing-check-requires invariant-loop decreases-loop
-failing-check-requires c κs = omega arith
+failing_check-requires : tie.Need-failing_check-requires invariant-loop decreases-loop
+failing_check-requires c κs = omega arith
+
+returns-then-failing_check-ne0 : tie.Need-returns-then-failing_check-ne0 invariant-loop decreases-loop
+unfolding admitted_of
+returns-then-failing_check-ne0 c = sym (all_stop _ _ _ c.loop-i-test.true (ne_eqb _ _ (λ e. c.if-failing_check-ne0.true (c.failing_check.ensures ∙ e)))) ∙ c.loop-i.invariant.1
+
+overflow_step-i : tie.Need-overflow_step-i invariant-loop decreases-loop
+overflow_step-i c = omega arith
+
+loop-i-smaller : tie.Need-loop-i-smaller invariant-loop decreases-loop
+loop-i-smaller c = omega arith
+
+loop-i-preserved : tie.Need-loop-i-preserved invariant-loop decreases-loop
+loop-i-preserved c = (omega arith, sym (all_next _ _ _ c.loop-i-test.true (eq-eqb _ _ (sym c.failing_check.ensures ∙ c.if-failing_check-ne0.false))) ∙ c.loop-i.invariant.1)
 
 returns : tie.Need-returns invariant-loop decreases-loop
 unfolding admitted_of
-returns c = sym (all_stop _ _ _ c.before.before.loop-test.true (ne_eqb _ _ (λ e. c.if1.true (c.before.failing-check.ensures ∙ e)))) ∙ c.before.before.before.loop.invariant.1
+returns c = sym (all_done _ _ _ c.loop-i-test.false) ∙ c.loop-i.invariant.1
 
-add-i : tie.Need-overflow-add-i invariant-loop decreases-loop
-add-i c = omega arith
-
-loop-less : tie.Need-loop-smaller invariant-loop decreases-loop
-loop-less c = omega arith
-
-loop-again : tie.Need-loop-preserved invariant-loop decreases-loop
-loop-again c = (omega arith, sym (all_next _ _ _ c.before.before.loop-test.true (eq-eqb _ _ (sym c.before.failing-check.ensures ∙ c.if1.false))) ∙ c.before.before.before.loop.invariant.1)
-
-returns-2 : tie.Need-returns-2 invariant-loop decreases-loop
-unfolding admitted_of
-returns-2 c = sym (all_done _ _ _ c.loop-test.false) ∙ c.before.loop.invariant.1
-
-pub triangles-admitted-spec : {M : Type 1} → statement M
-triangles-admitted-spec =
+pub triangles_admitted_spec : {M : Type 1} → statement M
+triangles_admitted_spec =
     tie.close
     (tie.spec
     invariant-loop
     decreases-loop
-    loop-holds
-    failing-check-requires
-    returns
-    add-i
-    loop-less
-    loop-again
-    returns-2)
+    loop-i-init
+    failing_check-requires
+    returns-then-failing_check-ne0
+    overflow_step-i
+    loop-i-smaller
+    loop-i-preserved
+    returns)
