@@ -1,7 +1,7 @@
 -- The pixels of the emitted list without their colours are those that are listed here: a pixel's colour says nothing of its mask, where the combiner has a colour for every
 -- shade. Assumes nothing.
 use Prim.Native.Nat.{ℕ, zero, suc, ◌+◌, ◌-◌, ◌*◌, ◌/◌, min}
-use mathlib.Core.Path.{◌≡◌, refl, sym, ap, ◌∙◌}
+use mathlib.Core.Path.{◌≡◌, refl, ◌∙◌}
 use mathlib.Core.Bool.{Bool, true, false, cond, ◌||◌}
 use mathlib.Core.List.{List, [], ◌∷◌, ◌++◌, map, map-append}
 use lib.Dec.{eqb}
@@ -11,7 +11,6 @@ use lib.ListN.{length}
 use Rattle.state.specs.declared.RenderMode.{RenderMode}
 use Rattle.state.specs.declared.Rgba.{Rgba}
 use Rattle.combiner.specs.declared.Combiner.{Combiner}
-use Rattle.combiner.specs.declared.Color.{Color}
 use Rattle.combiner.specs.declared.Color.TheVariants.{Value}
 use Rattle.combiner.specs.Combine.{color_of, full_shade}
 use Rattle.raster_vertex.specs.Sorted.{sorted}
@@ -31,7 +30,7 @@ use Rattle.raster_pixel.specs.Admitted.{triangle_at}
 use Rattle.raster_pixel.specs.Emitted.{Emit, shown, covered, emits, inside, corner_of, triangle_fragment, triangle_emits, three_emits, rectangle_fragment, rectangle_emits, geometry_emits}
 use Rattle.raster_pixel.specs.Parts.{parts, from}
 use Rattle.raster_emitted.specs.Masked.{Masked, masked_of}
-use Rattle.raster_emitted.specs.Shapes.{pixel_masks, shape_masks, triangle_masks, three_masks, rectangle_masks, geometry_masks}
+use Rattle.raster_emitted.specs.Shapes.{pixel_masks, triangle_masks, three_masks, rectangle_masks, geometry_masks}
 
 -- ---- parts
 map_from : {A B : Type 0} (f : A → B) (c : ℕ → List A) (d : ℕ → List B) → ((i : ℕ) → map f (c i) ≡ d i) → (a b : ℕ) → map f (from c a b) ≡ from d a b

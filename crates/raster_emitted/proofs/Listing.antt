@@ -1,17 +1,16 @@
 -- One law for every loop that lists emitted pixels: what two parts of a draw do, one after the other; and that parts after the window's end do nothing. Assumes nothing.
-use Prim.Native.Nat.{ℕ, ◌+◌, ◌-◌, ◌≤◌, ◌<◌, min}
+use Prim.Native.Nat.{ℕ, ◌+◌, ◌-◌, ◌≤◌, ◌<◌}
 use mathlib.Core.Path.{◌≡◌, refl, sym, ap, subst, ◌∙◌}
 use mathlib.Core.List.{List, [], ◌++◌}
 use native.Mathlib.Decide.{dec_lt}
 use native.Mathlib.Omega.{arith}
-use native.Mathlib.Nat.{add-zero}
 use lib.ListN.{length, get_or, length-append, get_or-append}
 use lib.Seq.{get_or-append-add}
 use Rattle.raster_pixel.specs.Parts.{from}
 use Rattle.raster_pixel.proofs.Parts.{from_none, from_join, from_one}
 use Rattle.raster_emitted.specs.declared.slots.Window.{Window}
 use Rattle.raster_emitted.specs.Masked.{Masked, no_pixel}
-use Rattle.raster_emitted.specs.Listed.{Slots, slots_of, slot_at, Ready, ListedPart}
+use Rattle.raster_emitted.specs.Listed.{Slots, slot_at, Ready, ListedPart}
 
 module _ {v : Window} where
   -- nothing

@@ -23,12 +23,11 @@ use Rattle.raster_rectangle.specs.Rectangle.{rect_mask}
 use Rattle.raster_pixel.specs.declared.Area.{Area}
 use Rattle.raster_pixel.specs.declared.Scissor.{Scissor}
 use Rattle.raster_pixel.specs.Area as area
-use Rattle.raster_pixel.specs.Emitted.{inside, corner_of}
+use Rattle.raster_pixel.specs.Emitted.{corner_of}
 use Rattle.raster_pixel.specs.Parts.{from}
 use Rattle.raster_pixel.proofs.Inside.{inside_area}
 use Rattle.raster_pixel.proofs.Near.{nonzero, corners_are}
 use Rattle.raster_pixel.proofs.Parts.{from_same}
-use Rattle.raster_emitted.specs.Masked.{Masked}
 use Rattle.raster_emitted.specs.Shapes.{pixel_masks, row_masks, line_masks, shape_masks, triangle_masks, rectangle_masks}
 use Rattle.raster_emitted.proofs.Lines.{rows-kept}
 

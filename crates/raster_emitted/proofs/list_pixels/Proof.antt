@@ -2,71 +2,68 @@
 use borrow.Author.Rules.{rules}
 use mathlib.Core.Path.{ap, sym}
 use Rattle.raster_emitted.specs.Shapes.{geometry_masks}
-use native.Mathlib.Omega.{arith}
 use Rattle.raster_emitted.proofs.Listing.{listed_none, listed_as}
 use Rattle.raster_emitted.proofs.list_pixels.Statement.{statement}
 use Rattle.raster_emitted.proofs.list_pixels.Tie as tie
 
-enum_told : tie.Need-enum-told
-enum_told c = search rules
+enum_told-1 : tie.Need-enum_told-1
+enum_told-1 c = search rules
 
-enum-known-geometry : tie.Need-enum-known-geometry
-enum-known-geometry c = search rules
+enum_known-geometry : tie.Need-enum_known-geometry
+enum_known-geometry c = search rules
 
-list-rectangle-requires : tie.Need-list-rectangle-requires
-list-rectangle-requires c κs = search rules
+list_rectangle-requires : tie.Need-list_rectangle-requires
+list_rectangle-requires c κs = search rules
 
-enum-told-2 : tie.Need-enum-told-2
-enum-told-2 c = search rules
+enum_told-in-Triangles : tie.Need-enum_told-in-Triangles
+enum_told-in-Triangles c = search rules
 
-list-triangles-requires : tie.Need-list-triangles-requires
-list-triangles-requires c κs = let e = c.before.before in let s = e.before.before.before.before.before.before.before in (s.requires.0, (s.requires.1.0, s.requires.1.1 e.enum-told2.given.1))
+list_triangles-requires : tie.Need-list_triangles-requires
+list_triangles-requires c κs = let e = c.before.before in let s = e.before.before.before.before.before.before in (s.requires.0, (s.requires.1.0, s.requires.1.1 e.in-Triangles.is))
 
-returns : tie.Need-returns
-returns c =
-    let s = c.before.before.before.before.before.before.before in
+returns-in-Nothing : tie.Need-returns-in-Nothing
+returns-in-Nothing c =
+    let s = c.before.before.before.before.before.before in
     let a = s.args in
-    listed_as (ap (geometry_masks a.antialias a.cull a.scissor a.width a.height a.vertices.now a.present.now a.indices.now) (sym c.enum_told.given.1)) (listed_none s.requires.0.within)
+    listed_as (ap (geometry_masks a.antialias a.cull a.scissor a.width a.height a.vertices.now a.present.now a.indices.now) (sym c.in-Nothing.is)) (listed_none s.requires.0.within)
 
-same_length : tie.Need-same-length
-same_length c = search rules
+shape_of-pixels-in-Rectangle : tie.Need-shape_of-pixels-in-Rectangle
+shape_of-pixels-in-Rectangle c = search rules
 
-same-length-2 : tie.Need-same-length-2
-same-length-2 c = search rules
+shape_of-masks-in-Rectangle : tie.Need-shape_of-masks-in-Rectangle
+shape_of-masks-in-Rectangle c = search rules
 
-returns-2 : tie.Need-returns-2
-returns-2 c =
-    let l = c.before.before.before.before in
-    let g = l.before.before.before.before in
-    let a = g.before.before.before.before.before.before.before.args in
-    listed_as (ap (geometry_masks a.antialias a.cull a.scissor a.width a.height a.vertices.now a.present.now a.indices.now) (sym g.geometry.given.1)) l.list-rectangle.ensures
+returns-in-Rectangle : tie.Need-returns-in-Rectangle
+returns-in-Rectangle c =
+    let a = c.args in
+    listed_as (ap (geometry_masks a.antialias a.cull a.scissor a.width a.height a.vertices.now a.present.now a.indices.now) (sym c.in-Rectangle.is)) c.list_rectangle.ensures
 
-same-length-3 : tie.Need-same-length-3
-same-length-3 c = search rules
+shape_of-pixels-in-Triangles : tie.Need-shape_of-pixels-in-Triangles
+shape_of-pixels-in-Triangles c = search rules
 
-same-length-4 : tie.Need-same-length-4
-same-length-4 c = search rules
+shape_of-masks-in-Triangles : tie.Need-shape_of-masks-in-Triangles
+shape_of-masks-in-Triangles c = search rules
 
-returns-3 : tie.Need-returns-3
-returns-3 c =
+returns-in-Triangles : tie.Need-returns-in-Triangles
+returns-in-Triangles c =
     let l = c.before.before.before.before in
     let e = l.before.before.before in
-    let a = e.before.before.before.before.before.before.before.args in
-    listed_as (ap (geometry_masks a.antialias a.cull a.scissor a.width a.height a.vertices.now a.present.now a.indices.now) (sym e.enum-told2.given.1)) l.list-triangles.ensures
+    let a = e.args in
+    listed_as (ap (geometry_masks a.antialias a.cull a.scissor a.width a.height a.vertices.now a.present.now a.indices.now) (sym e.in-Triangles.is)) l.list_triangles.ensures
 
-pub list-pixels-spec : {M : Type 1} → statement M
-list-pixels-spec =
+pub list_pixels_spec : {M : Type 1} → statement M
+list_pixels_spec =
     tie.close
     (tie.spec
-    enum_told
-    enum-known-geometry
-    list-rectangle-requires
-    enum-told-2
-    list-triangles-requires
-    returns
-    same_length
-    same-length-2
-    returns-2
-    same-length-3
-    same-length-4
-    returns-3)
+    enum_told-1
+    enum_known-geometry
+    list_rectangle-requires
+    enum_told-in-Triangles
+    list_triangles-requires
+    returns-in-Nothing
+    shape_of-pixels-in-Rectangle
+    shape_of-masks-in-Rectangle
+    returns-in-Rectangle
+    shape_of-pixels-in-Triangles
+    shape_of-masks-in-Triangles
+    returns-in-Triangles)

@@ -5,17 +5,17 @@ use Rattle.raster_emitted.proofs.Triangles.{rectangle-shape}
 use Rattle.raster_emitted.proofs.list_rectangle.Statement.{statement}
 use Rattle.raster_emitted.proofs.list_rectangle.Tie as tie
 
-outline-requires : tie.Need-outline-requires
-outline-requires c κs = search rules
+outline-t-requires : tie.Need-outline-t-requires
+outline-t-requires c κs = search rules
 
-list-shape-requires : tie.Need-list-shape-requires
-list-shape-requires c κs = search rules
+list_shape-requires : tie.Need-list_shape-requires
+list_shape-requires c κs = search rules
 
-same_length : tie.Need-same-length
-same_length c = search rules
+shape_of-pixels : tie.Need-shape_of-pixels
+shape_of-pixels c = search rules
 
-same-length-2 : tie.Need-same-length-2
-same-length-2 c = search rules
+shape_of-masks : tie.Need-shape_of-masks
+shape_of-masks c = search rules
 
 returns : tie.Need-returns
 returns c =
@@ -23,8 +23,8 @@ returns c =
     let o = l.before.before.before in
     let s = o.before.before.before in
     let a = s.args in
-    listed_as (rectangle-shape a.antialias a.scissor a.width a.height a.sides s.requires.1.width_small s.requires.1.height_small o.outline.ensures) l.list-shape.ensures
+    listed_as (rectangle-shape a.antialias a.scissor a.width a.height a.sides s.requires.1.width_small s.requires.1.height_small o.outline-t.ensures) l.list_shape.ensures
 
-pub list-rectangle-spec : {M : Type 1} → statement M
-list-rectangle-spec =
-    tie.close (tie.spec outline-requires list-shape-requires same_length same-length-2 returns)
+pub list_rectangle_spec : {M : Type 1} → statement M
+list_rectangle_spec =
+    tie.close (tie.spec outline-t-requires list_shape-requires shape_of-pixels shape_of-masks returns)

@@ -13,73 +13,73 @@ use Rattle.raster_emitted.proofs.list_triangle.Tie as tie
 culled-requires : tie.Need-culled-requires
 culled-requires c κs = search rules
 
-returns : tie.Need-returns
-returns c =
+returns-then-culled : tie.Need-returns-then-culled
+returns-then-culled c =
     let s = c.before.before.before.before in
     let a = s.args in
-    listed_as (sym (culled_none a.antialias a.cull a.scissor a.width a.height a.a a.b a.c (sym c.before.culled.ensures ∙ c.if1.true))) (listed_none s.requires.0.within)
+    listed_as (sym (culled_none a.antialias a.cull a.scissor a.width a.height a.a a.b a.c (sym c.culled.ensures ∙ c.if-culled.true))) (listed_none s.requires.0.within)
 
-sort-requires : tie.Need-sort-requires
-sort-requires c κs = search rules
+sort-v-requires : tie.Need-sort-v-requires
+sort-v-requires c κs = search rules
 
-corners-requires : tie.Need-corners-requires
-corners-requires c κs = search rules
+corners-corners-requires : tie.Need-corners-corners-requires
+corners-corners-requires c κs = search rules
 
-quarter-area-requires : tie.Need-quarter-area-requires
-quarter-area-requires c κs = near _ _ _ c.before.sort.ensures c.corners.ensures c.before.before.before.before.before.before.requires.1.0
+quarter_area-requires : tie.Need-quarter_area-requires
+quarter_area-requires c κs = near _ _ _ c.sort-v.ensures c.corners-corners.ensures c.requires.1.0
 
-returns-2 : tie.Need-returns-2
-returns-2 c =
+returns-then-quarter_area-eq0 : tie.Need-returns-then-quarter_area-eq0
+returns-then-quarter_area-eq0 c =
     let q = c.before in
     let u = q.before.before.before.before in
     let s = u.before.before.before in
     let a = s.args in
     listed_as
     (sym
-    (area_none a.antialias a.cull a.scissor a.width a.height a.a a.b a.c q.before.before.sort.ensures q.before.corners.ensures q.quarter-area.ensures (sym u.culled.ensures ∙ q.before.before.before.if1.false)
-    (sym (to_z-of_z w64 q.quarter-area.result (record { sfits = q.quarter-area.type-inv })) ∙ ap (to_z w64) c.if2.true)))
+    (area_none a.antialias a.cull a.scissor a.width a.height a.a a.b a.c q.sort-v.ensures q.corners-corners.ensures q.quarter_area.ensures (sym u.culled.ensures ∙ q.if-culled.false)
+    (sym (to_z-of_z w64 q.quarter_area.result (record { sfits = q.quarter_area.type_inv })) ∙ ap (to_z w64) c.if-quarter_area-eq0.true)))
     (listed_none s.requires.0.within)
 
-setup-requires : tie.Need-setup-requires
-setup-requires c κs = near _ _ _ c.before.before.before.sort.ensures c.before.before.corners.ensures c.before.before.before.before.before.before.before.before.requires.1.0
+setup-t-requires : tie.Need-setup-t-requires
+setup-t-requires c κs = near _ _ _ c.sort-v.ensures c.corners-corners.ensures c.requires.1.0
 
-list-shape-requires : tie.Need-list-shape-requires
-list-shape-requires c κs =
+list_shape-requires : tie.Need-list_shape-requires
+list_shape-requires c κs =
     let t = c.before.before in
     let e = t.before in
     let s = e.before.before.before.before.before.before.before.before in
-    (s.requires.0, (tame_as _ _ _ e.before.before.before.sort.ensures e.before.before.corners.ensures t.setup.ensures s.requires.1.0, s.requires.1.1))
+    (s.requires.0, (tame_as _ _ _ e.sort-v.ensures e.corners-corners.ensures t.setup-t.ensures s.requires.1.0, s.requires.1.1))
 
-same_length : tie.Need-same-length
-same_length c = search rules
+shape_of-pixels : tie.Need-shape_of-pixels
+shape_of-pixels c = search rules
 
-same-length-2 : tie.Need-same-length-2
-same-length-2 c = search rules
+shape_of-masks : tie.Need-shape_of-masks
+shape_of-masks c = search rules
 
-returns-3 : tie.Need-returns-3
-returns-3 c =
+returns : tie.Need-returns
+returns c =
     let l = c.before.before.before.before in
     let t = l.before.before.before in
     let q = t.before.before in
     let u = q.before.before.before.before in
-    let a = u.before.before.before.args in
+    let a = u.args in
     listed_as
-    (triangle-shape a.antialias a.cull a.scissor a.width a.height a.a a.b a.c q.before.before.sort.ensures q.before.corners.ensures q.quarter-area.ensures (sym u.culled.ensures ∙ q.before.before.before.if1.false)
-    (λ z. t.before.if2.false (ap (of_z w64) z)) t.setup.ensures)
-    l.list-shape.ensures
+    (triangle-shape a.antialias a.cull a.scissor a.width a.height a.a a.b a.c q.sort-v.ensures q.corners-corners.ensures q.quarter_area.ensures (sym u.culled.ensures ∙ q.if-culled.false)
+    (λ z. t.if-quarter_area-eq0.false (ap (of_z w64) z)) t.setup-t.ensures)
+    l.list_shape.ensures
 
-pub list-triangle-spec : {M : Type 1} → statement M
-list-triangle-spec =
+pub list_triangle_spec : {M : Type 1} → statement M
+list_triangle_spec =
     tie.close
     (tie.spec
     culled-requires
-    returns
-    sort-requires
-    corners-requires
-    quarter-area-requires
-    returns-2
-    setup-requires
-    list-shape-requires
-    same_length
-    same-length-2
-    returns-3)
+    returns-then-culled
+    sort-v-requires
+    corners-corners-requires
+    quarter_area-requires
+    returns-then-quarter_area-eq0
+    setup-t-requires
+    list_shape-requires
+    shape_of-pixels
+    shape_of-masks
+    returns)

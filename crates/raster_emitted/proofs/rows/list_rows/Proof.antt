@@ -9,80 +9,80 @@ use Rattle.raster_emitted.proofs.Listing.{listed_as, ready_now, listing_start, l
 use Rattle.raster_emitted.proofs.rows.list_rows.Statement.{statement}
 use Rattle.raster_emitted.proofs.rows.list_rows.Tie as tie
 
-abbrev invariant-loop : tie.invariant-loop
+abbrev invariant-loop : tie.invariant-loop-y
 invariant-loop pixels₀ masks₀ window n antialias t width left right top bottom m₀ y₀ pixels masks m y =
     (top ≤ y) × (y ≤ bottom) × ListedPart window (from (line_masks antialias t width left right) top y) n m (slots_of pixels₀ masks₀) (slots_of pixels masks)
 
-abbrev decreases-loop : tie.decreases-loop
+abbrev decreases-loop : tie.decreases-loop-y
 decreases-loop pixels₀ masks₀ window n antialias t width left right top bottom m₀ y₀ pixels masks m y = bottom - y
 
-loop-holds : tie.Need-loop-init invariant-loop decreases-loop
-loop-holds c = let s = c.before.before in (omega arith, s.requires.1.0.3, listing_start _ _ s.requires.0.within)
+loop-y-init : tie.Need-loop-y-init invariant-loop decreases-loop
+loop-y-init c = let s = c.before.before in (omega arith, s.requires.1.0.3, listing_start _ _ s.requires.0.within)
 
-same_length : tie.Need-same-length invariant-loop decreases-loop
-same_length c = c.before.before.before.loop.invariant.2.pixels
+shape_of-pixels-then-m-window : tie.Need-shape_of-pixels-then-m-window invariant-loop decreases-loop
+shape_of-pixels-then-m-window c = c.loop-y.invariant.2.pixels
 
-same-length-2 : tie.Need-same-length-2 invariant-loop decreases-loop
-same-length-2 c = c.before.before.before.loop.invariant.2.masks
+shape_of-masks-then-m-window : tie.Need-shape_of-masks-then-m-window invariant-loop decreases-loop
+shape_of-masks-then-m-window c = c.loop-y.invariant.2.masks
 
-returns : tie.Need-returns invariant-loop decreases-loop
-returns c = let l = c.before.before.before.loop.invariant in listing_stop _ _ l.0 l.2 l.1 c.if1.true
+returns-then-m-window : tie.Need-returns-then-m-window invariant-loop decreases-loop
+returns-then-m-window c = let l = c.loop-y.invariant in listing_stop _ _ l.0 l.2 l.1 c.if-m-window.true
 
-edges-at-requires : tie.Need-edges-at-requires invariant-loop decreases-loop
-edges-at-requires c κs = let s = c.before.before.before.before.before.before in (s.requires.1.1, omega (arith, c.before.before.loop-test.true, s.requires.1.0.4))
+edges_at-edges-requires : tie.Need-edges_at-edges-requires invariant-loop decreases-loop
+edges_at-edges-requires c κs = let s = c.before.before.before.before.before.before in (s.requires.1.1, omega (arith, c.loop-y-test.true, s.requires.1.0.4))
 
-bounds-requires : tie.Need-bounds-requires invariant-loop decreases-loop
-bounds-requires c κs = let s = c.before.before.before.before.before.before.before in (s.requires.1.0.0, omega (arith, s.requires.1.0.1, s.requires.1.0.2))
+bounds-kept-requires : tie.Need-bounds-kept-requires invariant-loop decreases-loop
+bounds-kept-requires c κs = let s = c.before.before.before.before.before.before.before in (s.requires.1.0.0, omega (arith, s.requires.1.0.1, s.requires.1.0.2))
 
-list-row-requires : tie.Need-list-row-requires invariant-loop decreases-loop
-list-row-requires c κs =
+list_row-m-requires : tie.Need-list_row-m-requires invariant-loop decreases-loop
+list_row-m-requires c κs =
     let b = c.before.before in
     let e = b.before.before in
     let l = e.before.before.before in
     let s = l.before.before.before in
-    let k = b.bounds.ensures.0 in
-    (ready_now s.requires.0 l.loop.invariant.2, (k.order, omega (arith, k.to, s.requires.1.0.1), s.requires.1.0.2, omega (arith, e.before.before.loop-test.true, s.requires.1.0.4)))
+    let k = b.bounds-kept.ensures.0 in
+    (ready_now s.requires.0 l.loop-y.invariant.2, (k.order, omega (arith, k.to, s.requires.1.0.1), s.requires.1.0.2, omega (arith, e.loop-y-test.true, s.requires.1.0.4)))
 
-add-y : tie.Need-overflow-add-y invariant-loop decreases-loop
-add-y c = let e = c.before.before.before.before.before.before.before.before.before in omega (arith, e.before.before.loop-test.true)
+overflow_step-y : tie.Need-overflow_step-y invariant-loop decreases-loop
+overflow_step-y c = let e = c.before.before.before.before.before.before.before.before.before in omega (arith, e.loop-y-test.true)
 
-loop-less : tie.Need-loop-smaller invariant-loop decreases-loop
-loop-less c = let e = c.before.before.before.before.before.before.before.before.before in omega (arith, e.before.before.loop-test.true)
+loop-y-smaller : tie.Need-loop-y-smaller invariant-loop decreases-loop
+loop-y-smaller c = let e = c.before.before.before.before.before.before.before.before.before in omega (arith, e.loop-y-test.true)
 
-loop-again : tie.Need-loop-preserved invariant-loop decreases-loop
-loop-again c =
+loop-y-preserved : tie.Need-loop-y-preserved invariant-loop decreases-loop
+loop-y-preserved c =
     let d = c.before.before.before.before in
     let b = d.before.before.before in
     let e = b.before.before in
-    let l = e.before.before.before.loop.invariant in
-    let a = e.before.before.before.before.before.before.args in
-    (omega (arith, l.0), omega (arith, e.before.before.loop-test.true), listing_more _ _ l.0 l.2 (listed_as (row_kept a.antialias a.t a.width a.left a.right _ b.before.edges_at.ensures b.bounds.ensures.0) d.list-row.ensures))
+    let l = e.loop-y.invariant in
+    let a = e.args in
+    (omega (arith, l.0), omega (arith, e.loop-y-test.true), listing_more _ _ l.0 l.2 (listed_as (row_kept a.antialias a.t a.width a.left a.right _ b.edges_at-edges.ensures b.bounds-kept.ensures.0) d.list_row-m.ensures))
 
-same-length-3 : tie.Need-same-length-3 invariant-loop decreases-loop
-same-length-3 c = c.before.loop.invariant.2.pixels
+shape_of-pixels : tie.Need-shape_of-pixels invariant-loop decreases-loop
+shape_of-pixels c = c.loop-y.invariant.2.pixels
 
-same-length-4 : tie.Need-same-length-4 invariant-loop decreases-loop
-same-length-4 c = c.before.loop.invariant.2.masks
+shape_of-masks : tie.Need-shape_of-masks invariant-loop decreases-loop
+shape_of-masks c = c.loop-y.invariant.2.masks
 
-returns-2 : tie.Need-returns-2 invariant-loop decreases-loop
-returns-2 c = let l = c.before.loop.invariant in listing_done _ _ l.0 l.2 c.loop-test.false l.1
+returns : tie.Need-returns invariant-loop decreases-loop
+returns c = let l = c.loop-y.invariant in listing_done _ _ l.0 l.2 c.loop-y-test.false l.1
 
-pub list-rows-spec : {M : Type 1} → statement M
-list-rows-spec =
+pub list_rows_spec : {M : Type 1} → statement M
+list_rows_spec =
     tie.close
     (tie.spec
     invariant-loop
     decreases-loop
-    loop-holds
-    same_length
-    same-length-2
-    returns
-    edges-at-requires
-    bounds-requires
-    list-row-requires
-    add-y
-    loop-less
-    loop-again
-    same-length-3
-    same-length-4
-    returns-2)
+    loop-y-init
+    shape_of-pixels-then-m-window
+    shape_of-masks-then-m-window
+    returns-then-m-window
+    edges_at-edges-requires
+    bounds-kept-requires
+    list_row-m-requires
+    overflow_step-y
+    loop-y-smaller
+    loop-y-preserved
+    shape_of-pixels
+    shape_of-masks
+    returns)

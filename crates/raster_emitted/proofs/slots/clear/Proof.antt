@@ -9,42 +9,42 @@ use Rattle.raster_emitted.proofs.Runs.{filled_none, filled_more, filled_all}
 use Rattle.raster_emitted.proofs.slots.clear.Statement.{statement}
 use Rattle.raster_emitted.proofs.slots.clear.Tie as tie
 
-abbrev invariant-loop : tie.invariant-loop
+abbrev invariant-loop : tie.invariant-loop-i
 invariant-loop pixels₀ masks₀ start end i₀ pixels masks i =
     (start ≤ i) × (i ≤ length masks₀) × Filled (λ (i : ℕ). 0) 0 start i (slots_of pixels₀ masks₀) (slots_of pixels masks)
 
-abbrev decreases-loop : tie.decreases-loop
+abbrev decreases-loop : tie.decreases-loop-i
 decreases-loop pixels₀ masks₀ start end i₀ pixels masks i = end - i
 
-loop-holds : tie.Need-loop-init invariant-loop decreases-loop
-loop-holds c = (omega arith, c.requires.0, filled_none _ _ _)
+loop-i-init : tie.Need-loop-i-init invariant-loop decreases-loop
+loop-i-init c = (omega arith, c.requires.0, filled_none _ _ _)
 
-mul-pixels : tie.Need-overflow-mul-pixels invariant-loop decreases-loop
-mul-pixels c = search rules
+offset_bounds-pixels-i : tie.Need-offset_bounds-pixels-i invariant-loop decreases-loop
+offset_bounds-pixels-i c = search rules
 
-slice-write-pixels : tie.Need-slice-write-pixels invariant-loop decreases-loop
-slice-write-pixels c = omega (arith, c.before.before.requires.1, c.before.loop.invariant.2.pixels, c.loop-test.true)
+bounds-pixels-i : tie.Need-bounds-pixels-i invariant-loop decreases-loop
+bounds-pixels-i c = omega (arith, c.requires.1, c.loop-i.invariant.2.pixels, c.loop-i-test.true)
 
-slice-write-masks : tie.Need-slice-write-masks invariant-loop decreases-loop
-slice-write-masks c = omega (arith, c.before.loop.invariant.2.masks, c.loop-test.true)
+bounds-masks-i : tie.Need-bounds-masks-i invariant-loop decreases-loop
+bounds-masks-i c = omega (arith, c.loop-i.invariant.2.masks, c.loop-i-test.true)
 
-add-i : tie.Need-overflow-add-i invariant-loop decreases-loop
-add-i c = omega arith
+overflow_step-i : tie.Need-overflow_step-i invariant-loop decreases-loop
+overflow_step-i c = omega arith
 
-loop-less : tie.Need-loop-smaller invariant-loop decreases-loop
-loop-less c = omega (arith, c.loop-test.true)
+loop-i-smaller : tie.Need-loop-i-smaller invariant-loop decreases-loop
+loop-i-smaller c = omega (arith, c.loop-i-test.true)
 
-loop-again : tie.Need-loop-preserved invariant-loop decreases-loop
-loop-again c = let l = c.before.loop.invariant in (omega (arith, l.0), omega (arith, c.loop-test.true), filled_more _ _ l.2 l.0 (slice-write-pixels c) (slice-write-masks c) refl)
+loop-i-preserved : tie.Need-loop-i-preserved invariant-loop decreases-loop
+loop-i-preserved c = let l = c.loop-i.invariant in (omega (arith, l.0), omega (arith, c.loop-i-test.true), filled_more _ _ l.2 l.0 (bounds-pixels-i c) (bounds-masks-i c) refl)
 
-same_length : tie.Need-same-length invariant-loop decreases-loop
-same_length c = c.before.loop.invariant.2.pixels
+shape_of-pixels : tie.Need-shape_of-pixels invariant-loop decreases-loop
+shape_of-pixels c = c.loop-i.invariant.2.pixels
 
-same-length-2 : tie.Need-same-length-2 invariant-loop decreases-loop
-same-length-2 c = c.before.loop.invariant.2.masks
+shape_of-masks : tie.Need-shape_of-masks invariant-loop decreases-loop
+shape_of-masks c = c.loop-i.invariant.2.masks
 
 returns : tie.Need-returns invariant-loop decreases-loop
-returns c = let l = c.before.loop.invariant in filled_all (omega (arith, l.1, c.loop-test.false)) l.2
+returns c = let l = c.loop-i.invariant in filled_all (omega (arith, l.1, c.loop-i-test.false)) l.2
 
 pub clear_spec : {M : Type 1} → statement M
 clear_spec =
@@ -52,13 +52,13 @@ clear_spec =
     (tie.spec
     invariant-loop
     decreases-loop
-    loop-holds
-    mul-pixels
-    slice-write-pixels
-    slice-write-masks
-    add-i
-    loop-less
-    loop-again
-    same_length
-    same-length-2
+    loop-i-init
+    offset_bounds-pixels-i
+    bounds-pixels-i
+    bounds-masks-i
+    overflow_step-i
+    loop-i-smaller
+    loop-i-preserved
+    shape_of-pixels
+    shape_of-masks
     returns)

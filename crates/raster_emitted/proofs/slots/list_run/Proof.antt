@@ -8,88 +8,88 @@ use Rattle.raster_emitted.proofs.Runs.{filled_none, filled_more, run-listed}
 use Rattle.raster_emitted.proofs.slots.list_run.Statement.{statement}
 use Rattle.raster_emitted.proofs.slots.list_run.Tie as tie
 
-abbrev invariant-loop : tie.invariant-loop
+abbrev invariant-loop : tie.invariant-loop-i
 invariant-loop pixels₀ masks₀ n pixel mask count first end slots start stop i₀ pixels masks i =
     (start ≤ i) × (i ≤ stop) × Filled (λ (i : ℕ). pixel + (first + i - n)) mask start i (slots_of pixels₀ masks₀) (slots_of pixels masks)
 
-abbrev decreases-loop : tie.decreases-loop
+abbrev decreases-loop : tie.decreases-loop-i
 decreases-loop pixels₀ masks₀ n pixel mask count first end slots start stop i₀ pixels masks i = stop - i
 
-counted-requires : tie.Need-counted-requires invariant-loop decreases-loop
-counted-requires c κs = c.before.before.requires.0.within
+counted-end-requires : tie.Need-counted-end-requires invariant-loop decreases-loop
+counted-end-requires c κs = c.requires.0.within
 
-slots-before-requires : tie.Need-slots-before-requires invariant-loop decreases-loop
-slots-before-requires c κs = search rules
+slots_before-start-requires : tie.Need-slots_before-start-requires invariant-loop decreases-loop
+slots_before-start-requires c κs = search rules
 
-slots-before-requires-2 : tie.Need-slots-before-requires-2 invariant-loop decreases-loop
-slots-before-requires-2 c κs = search rules
+slots_before-stop-requires : tie.Need-slots_before-stop-requires invariant-loop decreases-loop
+slots_before-stop-requires c κs = search rules
 
-loop-holds : tie.Need-loop-init invariant-loop decreases-loop
-loop-holds c = let s = c.before.before.before.before.before in (omega arith, omega (arith, s.requires.0.within, c.slots-before2.ensures, c.before.slots-before.ensures, c.before.before.counted.ensures), filled_none _ _ _)
+loop-i-init : tie.Need-loop-i-init invariant-loop decreases-loop
+loop-i-init c = let s = c.before.before.before.before.before in (omega arith, omega (arith, s.requires.0.within, c.slots_before-stop.ensures, c.slots_before-start.ensures, c.counted-end.ensures), filled_none _ _ _)
 
-add-past : tie.Need-overflow-add-past invariant-loop decreases-loop
-add-past c = omega (arith, c.before.before.slots-before2.ensures, c.loop-test.true)
+overflow_add-past : tie.Need-overflow_add-past invariant-loop decreases-loop
+overflow_add-past c = omega (arith, c.slots_before-stop.ensures, c.loop-i-test.true)
 
-sub-past : tie.Need-overflow-sub-past invariant-loop decreases-loop
-sub-past c = omega (arith, c.before.before.before.slots-before.ensures, c.before.before.slots-before2.ensures, c.loop-test.true, c.before.loop.invariant.0)
+overflow_sub-past : tie.Need-overflow_sub-past invariant-loop decreases-loop
+overflow_sub-past c = omega (arith, c.slots_before-start.ensures, c.slots_before-stop.ensures, c.loop-i-test.true, c.loop-i.invariant.0)
 
-cast-pixels : tie.Need-overflow-cast-pixels invariant-loop decreases-loop
-cast-pixels c = let s = c.before.before.before.before.before.before.before in omega (arith, c.before.before.slots-before2.ensures, c.loop-test.true, c.before.before.before.before.counted.ensures)
+overflow_cast-pixels : tie.Need-overflow_cast-pixels invariant-loop decreases-loop
+overflow_cast-pixels c = let s = c.before.before.before.before.before.before.before in omega (arith, c.slots_before-stop.ensures, c.loop-i-test.true, c.counted-end.ensures)
 
-add-pixels : tie.Need-overflow-add-pixels invariant-loop decreases-loop
-add-pixels c = let s = c.before.before.before.before.before.before.before in omega (arith, s.requires.1, c.before.before.slots-before2.ensures, c.loop-test.true, c.before.before.before.before.counted.ensures)
+overflow_add-pixels : tie.Need-overflow_add-pixels invariant-loop decreases-loop
+overflow_add-pixels c = let s = c.before.before.before.before.before.before.before in omega (arith, s.requires.1, c.slots_before-stop.ensures, c.loop-i-test.true, c.counted-end.ensures)
 
-mul-pixels : tie.Need-overflow-mul-pixels invariant-loop decreases-loop
-mul-pixels c = search rules
+offset_bounds-pixels-i : tie.Need-offset_bounds-pixels-i invariant-loop decreases-loop
+offset_bounds-pixels-i c = search rules
 
-slice-write-pixels : tie.Need-slice-write-pixels invariant-loop decreases-loop
-slice-write-pixels c = let s = c.before.before.before.before.before.before.before in omega (arith, s.requires.0.matched, c.before.loop.invariant.2.pixels, c.before.before.slots-before2.ensures, c.loop-test.true)
+bounds-pixels-i : tie.Need-bounds-pixels-i invariant-loop decreases-loop
+bounds-pixels-i c = let s = c.before.before.before.before.before.before.before in omega (arith, s.requires.0.matched, c.loop-i.invariant.2.pixels, c.slots_before-stop.ensures, c.loop-i-test.true)
 
-slice-write-masks : tie.Need-slice-write-masks invariant-loop decreases-loop
-slice-write-masks c = omega (arith, c.before.loop.invariant.2.masks, c.before.before.slots-before2.ensures, c.loop-test.true)
+bounds-masks-i : tie.Need-bounds-masks-i invariant-loop decreases-loop
+bounds-masks-i c = omega (arith, c.loop-i.invariant.2.masks, c.slots_before-stop.ensures, c.loop-i-test.true)
 
-add-i : tie.Need-overflow-add-i invariant-loop decreases-loop
-add-i c = omega (arith, c.before.before.slots-before2.ensures, c.loop-test.true)
+overflow_step-i : tie.Need-overflow_step-i invariant-loop decreases-loop
+overflow_step-i c = omega (arith, c.slots_before-stop.ensures, c.loop-i-test.true)
 
-loop-less : tie.Need-loop-smaller invariant-loop decreases-loop
-loop-less c = omega (arith, c.loop-test.true)
+loop-i-smaller : tie.Need-loop-i-smaller invariant-loop decreases-loop
+loop-i-smaller c = omega (arith, c.loop-i-test.true)
 
-loop-again : tie.Need-loop-preserved invariant-loop decreases-loop
-loop-again c = let l = c.before.loop.invariant in (omega (arith, l.0), omega (arith, c.loop-test.true), filled_more _ _ l.2 l.0 (slice-write-pixels c) (slice-write-masks c) refl)
+loop-i-preserved : tie.Need-loop-i-preserved invariant-loop decreases-loop
+loop-i-preserved c = let l = c.loop-i.invariant in (omega (arith, l.0), omega (arith, c.loop-i-test.true), filled_more _ _ l.2 l.0 (bounds-pixels-i c) (bounds-masks-i c) refl)
 
-same_length : tie.Need-same-length invariant-loop decreases-loop
-same_length c = c.before.loop.invariant.2.pixels
+shape_of-pixels : tie.Need-shape_of-pixels invariant-loop decreases-loop
+shape_of-pixels c = c.loop-i.invariant.2.pixels
 
-same-length-2 : tie.Need-same-length-2 invariant-loop decreases-loop
-same-length-2 c = c.before.loop.invariant.2.masks
+shape_of-masks : tie.Need-shape_of-masks invariant-loop decreases-loop
+shape_of-masks c = c.loop-i.invariant.2.masks
 
 returns : tie.Need-returns invariant-loop decreases-loop
 returns c =
-    let l = c.before.loop.invariant in
+    let l = c.loop-i.invariant in
     let s = c.before.before.before.before.before.before.before in
-    run-listed _ _ _ s.requires.0.within c.before.before.before.before.counted.ensures c.before.before.before.slots-before.ensures
-    (omega (arith, l.1, c.loop-test.false, c.before.before.slots-before2.ensures)) l.2
+    run-listed _ _ _ s.requires.0.within c.counted-end.ensures c.slots_before-start.ensures
+    (omega (arith, l.1, c.loop-i-test.false, c.slots_before-stop.ensures)) l.2
 
-pub list-run-spec : {M : Type 1} → statement M
-list-run-spec =
+pub list_run_spec : {M : Type 1} → statement M
+list_run_spec =
     tie.close
     (tie.spec
     invariant-loop
     decreases-loop
-    counted-requires
-    slots-before-requires
-    slots-before-requires-2
-    loop-holds
-    add-past
-    sub-past
-    cast-pixels
-    add-pixels
-    mul-pixels
-    slice-write-pixels
-    slice-write-masks
-    add-i
-    loop-less
-    loop-again
-    same_length
-    same-length-2
+    counted-end-requires
+    slots_before-start-requires
+    slots_before-stop-requires
+    loop-i-init
+    overflow_add-past
+    overflow_sub-past
+    overflow_cast-pixels
+    overflow_add-pixels
+    offset_bounds-pixels-i
+    bounds-pixels-i
+    bounds-masks-i
+    overflow_step-i
+    loop-i-smaller
+    loop-i-preserved
+    shape_of-pixels
+    shape_of-masks
     returns)
