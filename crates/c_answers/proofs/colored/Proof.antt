@@ -7,20 +7,20 @@ use borrow.Author.Rules.{rules}
 use Rattle.c_answers.proofs.colored.Statement.{statement}
 use Rattle.c_answers.proofs.colored.Tie as tie
 
-enum-known-answer : tie.Need-enum-known-answer
-enum-known-answer c = search rules
+enum_known-answer : tie.Need-enum_known-answer
+enum_known-answer c = search rules
 
-enum_told : tie.Need-enum-told
-enum_told c = search rules
+enum_told-1 : tie.Need-enum_told-1
+enum_told-1 c = search rules
 
-no-color-requires : tie.Need-no-color-requires
-no-color-requires c κs = search rules
+no_color-requires : tie.Need-no_color-requires
+no_color-requires c κs = search rules
 
-returns : tie.Need-returns
-returns c = sym (ap (λ x. color_answer (color_means x)) c.before.answer.given.1)
+returns-in-Value : tie.Need-returns-in-Value
+returns-in-Value c = sym (ap (λ x. color_answer (color_means x)) c.in-Value.is)
 
-returns-2 : tie.Need-returns-2
-returns-2 c = (λ i. record { some = false; rgba = c.no-color.ensures i }) ∙ sym (ap (λ x. color_answer (color_means x)) c.before.enum_told.given.1)
+returns-in-Refused : tie.Need-returns-in-Refused
+returns-in-Refused c = (λ i. record { some = false; rgba = c.no_color.ensures i }) ∙ sym (ap (λ x. color_answer (color_means x)) c.in-Refused.is)
 
-pub colored-spec : {M : Type 1} → statement M
-colored-spec = tie.close (tie.spec enum-known-answer enum_told no-color-requires returns returns-2)
+pub colored_spec : {M : Type 1} → statement M
+colored_spec = tie.close (tie.spec enum_known-answer enum_told-1 no_color-requires returns-in-Value returns-in-Refused)

@@ -7,43 +7,43 @@ use borrow.Author.Rules.{rules}
 use Rattle.c_answers.proofs.encoded.Statement.{statement}
 use Rattle.c_answers.proofs.encoded.Tie as tie
 
-enum-known-answer : tie.Need-enum-known-answer
-enum-known-answer c = search rules
+enum_known-answer : tie.Need-enum_known-answer
+enum_known-answer c = search rules
 
-cast-value : tie.Need-overflow-cast-value
-cast-value c = search rules
+overflow_cast-value : tie.Need-overflow_cast-value
+overflow_cast-value c = search rules
 
-cast-value-2 : tie.Need-overflow-cast-value-2
-cast-value-2 c = search rules
+overflow_cast-value-in-Bytes : tie.Need-overflow_cast-value-in-Bytes
+overflow_cast-value-in-Bytes c = search rules
 
-mul-value : tie.Need-overflow-mul-value
-mul-value c = search rules
+overflow_mul-value : tie.Need-overflow_mul-value
+overflow_mul-value c = search rules
 
-add-value : tie.Need-overflow-add-value
-add-value c = search rules
+overflow_add-value : tie.Need-overflow_add-value
+overflow_add-value c = search rules
 
-enum_told : tie.Need-enum-told
-enum_told c = search rules
+enum_told-1 : tie.Need-enum_told-1
+enum_told-1 c = search rules
 
-turned-away-requires : tie.Need-turned-away-requires
-turned-away-requires c κs = search rules
+turned_away-requires : tie.Need-turned_away-requires
+turned_away-requires c κs = search rules
 
-returns : tie.Need-returns
-returns c = arm encode_means two_bytes c.before.answer.given.1
+returns-in-Bytes : tie.Need-returns-in-Bytes
+returns-in-Bytes c = arm encode_means two_bytes c.in-Bytes.is
 
-returns-2 : tie.Need-returns-2
-returns-2 c = c.turned-away.ensures ∙ arm encode_means two_bytes c.before.enum_told.given.1
+returns-in-Refused : tie.Need-returns-in-Refused
+returns-in-Refused c = c.turned_away.ensures ∙ arm encode_means two_bytes c.in-Refused.is
 
-pub encoded-spec : {M : Type 1} → statement M
-encoded-spec =
+pub encoded_spec : {M : Type 1} → statement M
+encoded_spec =
     tie.close
     (tie.spec
-    enum-known-answer
-    cast-value
-    cast-value-2
-    mul-value
-    add-value
-    enum_told
-    turned-away-requires
-    returns
-    returns-2)
+    enum_known-answer
+    overflow_cast-value
+    overflow_cast-value-in-Bytes
+    overflow_mul-value
+    overflow_add-value
+    enum_told-1
+    turned_away-requires
+    returns-in-Bytes
+    returns-in-Refused)

@@ -7,25 +7,25 @@ use borrow.Author.Rules.{rules}
 use Rattle.c_answers.proofs.made.Statement.{statement}
 use Rattle.c_answers.proofs.made.Tie as tie
 
-enum-known-answer : tie.Need-enum-known-answer
-enum-known-answer c = search rules
+enum_known-answer : tie.Need-enum_known-answer
+enum_known-answer c = search rules
 
-parts-of-requires : tie.Need-parts-of-requires
-parts-of-requires c κs = search rules
+parts_of-requires : tie.Need-parts_of-requires
+parts_of-requires c κs = search rules
 
-enum_told : tie.Need-enum-told
-enum_told c = search rules
+enum_told-1 : tie.Need-enum_told-1
+enum_told-1 c = search rules
 
-no-parts-requires : tie.Need-no-parts-requires
-no-parts-requires c κs = search rules
+no_parts-requires : tie.Need-no_parts-requires
+no_parts-requires c κs = search rules
 
-returns : tie.Need-returns
-returns c = (λ i. record { some = true; combiner = c.parts-of.ensures i }) ∙ sym (ap (λ x. combiner_answer (made_means x)) c.before.before.answer.given.1)
+returns-in-With : tie.Need-returns-in-With
+returns-in-With c = (λ i. record { some = true; combiner = c.parts_of.ensures i }) ∙ sym (ap (λ x. combiner_answer (made_means x)) c.in-With.is)
 
-returns-2 : tie.Need-returns-2
-returns-2 c = (λ i. record { some = false; combiner = c.no-parts.ensures i }) ∙ sym (ap (λ x. combiner_answer (made_means x)) c.before.enum_told.given.1)
+returns-in-Without : tie.Need-returns-in-Without
+returns-in-Without c = (λ i. record { some = false; combiner = c.no_parts.ensures i }) ∙ sym (ap (λ x. combiner_answer (made_means x)) c.in-Without.is)
 
-pub made-spec : {M : Type 1} → statement M
-made-spec =
+pub made_spec : {M : Type 1} → statement M
+made_spec =
     tie.close
-    (tie.spec enum-known-answer parts-of-requires enum_told no-parts-requires returns returns-2)
+    (tie.spec enum_known-answer parts_of-requires enum_told-1 no_parts-requires returns-in-With returns-in-Without)

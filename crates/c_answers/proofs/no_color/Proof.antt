@@ -8,5 +8,5 @@ returns : tie.Need-returns
 unfolding of_bits
 returns c = refl
 
-pub no-color-spec : {M : Type 1} → statement M
-no-color-spec = tie.close (tie.spec returns)
+pub no_color_spec : {M : Type 1} → statement M
+no_color_spec = tie.close (tie.spec returns)

@@ -7,14 +7,14 @@ use borrow.Author.Rules.{rules}
 use Rattle.c_answers.proofs.no_parts.Statement.{statement}
 use Rattle.c_answers.proofs.no_parts.Tie as tie
 
-no-color-requires : tie.Need-no-color-requires
-no-color-requires c κs = search rules
+no_color-zero-requires : tie.Need-no_color-zero-requires
+no_color-zero-requires c κs = search rules
 
 returns : tie.Need-returns
 unfolding of_bits parts_of numbers_of color_number alpha_number
 returns c =
     λ i.
-    let z = c.no-color.ensures i in record { selectors = (parts_of no_combiner).selectors; prim = z; env = z; blend = z; fog = z; lod = no_combiner.lod }
+    let z = c.no_color-zero.ensures i in record { selectors = (parts_of no_combiner).selectors; prim = z; env = z; blend = z; fog = z; lod = no_combiner.lod }
 
-pub no-parts-spec : {M : Type 1} → statement M
-no-parts-spec = tie.close (tie.spec no-color-requires returns)
+pub no_parts_spec : {M : Type 1} → statement M
+no_parts_spec = tie.close (tie.spec no_color-zero-requires returns)

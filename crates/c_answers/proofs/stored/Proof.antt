@@ -7,24 +7,24 @@ use borrow.Author.Rules.{rules}
 use Rattle.c_answers.proofs.stored.Statement.{statement}
 use Rattle.c_answers.proofs.stored.Tie as tie
 
-enum-known-answer : tie.Need-enum-known-answer
-enum-known-answer c = search rules
+enum_known-answer : tie.Need-enum_known-answer
+enum_known-answer c = search rules
 
-cast-t4 : tie.Need-overflow-cast-t4
-cast-t4 c = search rules
+overflow_cast-result : tie.Need-overflow_cast-result
+overflow_cast-result c = search rules
 
-enum_told : tie.Need-enum-told
-enum_told c = search rules
+enum_told-1 : tie.Need-enum_told-1
+enum_told-1 c = search rules
 
-turned-away-requires : tie.Need-turned-away-requires
-turned-away-requires c κs = search rules
+turned_away-requires : tie.Need-turned_away-requires
+turned_away-requires c κs = search rules
 
-returns : tie.Need-returns
-returns c = arm destination_means same c.before.answer.given.1
+returns-in-Coverage : tie.Need-returns-in-Coverage
+returns-in-Coverage c = arm destination_means same c.in-Coverage.is
 
-returns-2 : tie.Need-returns-2
-returns-2 c = c.turned-away.ensures ∙ arm destination_means same c.before.enum_told.given.1
+returns-in-Refused : tie.Need-returns-in-Refused
+returns-in-Refused c = c.turned_away.ensures ∙ arm destination_means same c.in-Refused.is
 
-pub stored-spec : {M : Type 1} → statement M
-stored-spec =
-    tie.close (tie.spec enum-known-answer cast-t4 enum_told turned-away-requires returns returns-2)
+pub stored_spec : {M : Type 1} → statement M
+stored_spec =
+    tie.close (tie.spec enum_known-answer overflow_cast-result enum_told-1 turned_away-requires returns-in-Coverage returns-in-Refused)

@@ -6,17 +6,17 @@ use borrow.Author.Rules.{rules}
 use Rattle.c_answers.proofs.strict.Statement.{statement}
 use Rattle.c_answers.proofs.strict.Tie as tie
 
-enum-known-answer : tie.Need-enum-known-answer
-enum-known-answer c = search rules
+enum_known-answer : tie.Need-enum_known-answer
+enum_known-answer c = search rules
 
-enum_told : tie.Need-enum-told
-enum_told c = search rules
+enum_told-1 : tie.Need-enum_told-1
+enum_told-1 c = search rules
 
-returns : tie.Need-returns
-returns c = sym (ap (λ x. strict_answer (strict_means x)) c.before.answer.given.1)
+returns-in-Word : tie.Need-returns-in-Word
+returns-in-Word c = sym (ap (λ x. strict_answer (strict_means x)) c.in-Word.is)
 
-returns-2 : tie.Need-returns-2
-returns-2 c = sym (ap (λ x. strict_answer (strict_means x)) c.enum_told.given.1)
+returns-in-Nothing : tie.Need-returns-in-Nothing
+returns-in-Nothing c = sym (ap (λ x. strict_answer (strict_means x)) c.in-Nothing.is)
 
-pub strict-spec : {M : Type 1} → statement M
-strict-spec = tie.close (tie.spec enum-known-answer enum_told returns returns-2)
+pub strict_spec : {M : Type 1} → statement M
+strict_spec = tie.close (tie.spec enum_known-answer enum_told-1 returns-in-Word returns-in-Nothing)

@@ -7,28 +7,28 @@ use borrow.Author.Rules.{rules}
 use Rattle.c_answers.proofs.yes_or_no.Statement.{statement}
 use Rattle.c_answers.proofs.yes_or_no.Tie as tie
 
-enum_told : tie.Need-enum-told
-enum_told c = search rules
+enum_told-1 : tie.Need-enum_told-1
+enum_told-1 c = search rules
 
-enum-told-2 : tie.Need-enum-told-2
-enum-told-2 c = search rules
+enum_told-in-No : tie.Need-enum_told-in-No
+enum_told-in-No c = search rules
 
-enum-told-3 : tie.Need-enum-told-3
-enum-told-3 c = search rules
+enum_told-in-Refused : tie.Need-enum_told-in-Refused
+enum_told-in-Refused c = search rules
 
-turned-away-requires : tie.Need-turned-away-requires
-turned-away-requires c κs = search rules
+turned_away-requires : tie.Need-turned_away-requires
+turned_away-requires c κs = search rules
 
-returns : tie.Need-returns
-returns c = arm answer_means bit c.enum_told.given.1
+returns-in-Yes : tie.Need-returns-in-Yes
+returns-in-Yes c = arm answer_means bit c.in-Yes.is
 
-returns-2 : tie.Need-returns-2
-returns-2 c = arm answer_means bit c.enum-told2.given.1
+returns-in-No : tie.Need-returns-in-No
+returns-in-No c = arm answer_means bit c.in-No.is
 
-returns-3 : tie.Need-returns-3
-returns-3 c = c.turned-away.ensures ∙ arm answer_means bit c.before.enum-told3.given.1
+returns-in-Refused : tie.Need-returns-in-Refused
+returns-in-Refused c = c.turned_away.ensures ∙ arm answer_means bit c.in-Refused.is
 
-pub yes-or-no-spec : {M : Type 1} → statement M
-yes-or-no-spec =
+pub yes_or_no_spec : {M : Type 1} → statement M
+yes_or_no_spec =
     tie.close
-    (tie.spec enum_told enum-told-2 enum-told-3 turned-away-requires returns returns-2 returns-3)
+    (tie.spec enum_told-1 enum_told-in-No enum_told-in-Refused turned_away-requires returns-in-Yes returns-in-No returns-in-Refused)

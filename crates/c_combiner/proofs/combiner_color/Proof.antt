@@ -6,8 +6,8 @@ use borrow.Author.Rules.{rules}
 use Rattle.c_combiner.proofs.combiner_color.Statement.{statement}
 use Rattle.c_combiner.proofs.combiner_color.Tie as tie
 
-combiner-of-requires : tie.Need-combiner-of-requires
-combiner-of-requires c κs = search rules
+combiner_of-requires : tie.Need-combiner_of-requires
+combiner_of-requires c κs = search rules
 
 color-requires : tie.Need-color-requires
 color-requires c κs = search rules
@@ -16,8 +16,8 @@ colored-requires : tie.Need-colored-requires
 colored-requires c κs = search rules
 
 returns : tie.Need-returns
-returns c = c.colored.ensures ∙ ap color_answer (c.before.color.ensures.0 ∙ ap (λ k. color_call k c.before.before.before.args.shade) c.before.before.combiner-of.ensures)
+returns c = c.colored.ensures ∙ ap color_answer (c.color.ensures.0 ∙ ap (λ k. color_call k c.args.shade) c.combiner_of.ensures)
 
-pub combiner-color-spec : {M : Type 1} → statement M
-combiner-color-spec =
-    tie.close (tie.spec combiner-of-requires color-requires colored-requires returns)
+pub combiner_color_spec : {M : Type 1} → statement M
+combiner_color_spec =
+    tie.close (tie.spec combiner_of-requires color-requires colored-requires returns)

@@ -6,8 +6,8 @@ use borrow.Author.Rules.{rules}
 use Rattle.c_combiner.proofs.combiner_new.Statement.{statement}
 use Rattle.c_combiner.proofs.combiner_new.Tie as tie
 
-render-mode-requires : tie.Need-render-mode-requires
-render-mode-requires c κs = search rules
+render_mode-requires : tie.Need-render_mode-requires
+render_mode-requires c κs = search rules
 
 new-requires : tie.Need-new-requires
 new-requires c κs = search rules
@@ -16,7 +16,7 @@ made-requires : tie.Need-made-requires
 made-requires c κs = search rules
 
 returns : tie.Need-returns
-returns c = c.made.ensures ∙ ap combiner_answer (c.before.new.ensures.0 ∙ ap (new_call c.before.before.before.args.uniform) c.before.before.render-mode.ensures)
+returns c = c.made.ensures ∙ ap combiner_answer (c.new.ensures.0 ∙ ap (new_call c.args.uniform) c.render_mode.ensures)
 
-pub combiner-new-spec : {M : Type 1} → statement M
-combiner-new-spec = tie.close (tie.spec render-mode-requires new-requires made-requires returns)
+pub combiner_new_spec : {M : Type 1} → statement M
+combiner_new_spec = tie.close (tie.spec render_mode-requires new-requires made-requires returns)

@@ -6,18 +6,18 @@ use borrow.Author.Rules.{rules}
 use Rattle.c_combiner.proofs.strict_color.Statement.{statement}
 use Rattle.c_combiner.proofs.strict_color.Tie as tie
 
-combiner-of-requires : tie.Need-combiner-of-requires
-combiner-of-requires c κs = search rules
+combiner_of-requires : tie.Need-combiner_of-requires
+combiner_of-requires c κs = search rules
 
-strict-color-requires : tie.Need-strict-color-requires
-strict-color-requires c κs = search rules
+strict_color-requires : tie.Need-strict_color-requires
+strict_color-requires c κs = search rules
 
 strict-requires : tie.Need-strict-requires
 strict-requires c κs = search rules
 
 returns : tie.Need-returns
-returns c = c.strict.ensures ∙ ap strict_answer (c.before.strict-color.ensures.0 ∙ ap strict_call c.before.before.combiner-of.ensures)
+returns c = c.strict.ensures ∙ ap strict_answer (c.strict_color.ensures.0 ∙ ap strict_call c.combiner_of.ensures)
 
-pub strict-color-spec : {M : Type 1} → statement M
-strict-color-spec =
-    tie.close (tie.spec combiner-of-requires strict-color-requires strict-requires returns)
+pub strict_color_spec : {M : Type 1} → statement M
+strict_color_spec =
+    tie.close (tie.spec combiner_of-requires strict_color-requires strict-requires returns)

@@ -6,11 +6,11 @@ use borrow.Author.Rules.{rules}
 use Rattle.c_pixel.proofs.blend.Statement.{statement}
 use Rattle.c_pixel.proofs.blend.Tie as tie
 
-combiner-of-requires : tie.Need-combiner-of-requires
-combiner-of-requires c κs = search rules
+combiner_of-k-requires : tie.Need-combiner_of-k-requires
+combiner_of-k-requires c κs = search rules
 
-render-mode-requires : tie.Need-render-mode-requires
-render-mode-requires c κs = search rules
+render_mode-requires : tie.Need-render_mode-requires
+render_mode-requires c κs = search rules
 
 blend-requires : tie.Need-blend-requires
 blend-requires c κs = search rules
@@ -20,10 +20,10 @@ blended-requires c κs = search rules
 
 returns : tie.Need-returns
 returns c =
-    let a = c.before.before.before.before.args in
-    answered blend_means four_bytes c.before.blend.result c.blended.ensures c.before.blend.ensures (λ i. blend_call (c.before.before.render-mode.ensures i) (c.before.before.before.combiner-of.ensures i) a.rgba a.memory a.shade-alpha a.mask a.coverage)
+    let a = c.args in
+    answered blend_means four_bytes c.blend.result c.blended.ensures c.blend.ensures (λ i. blend_call (c.render_mode.ensures i) (c.combiner_of-k.ensures i) a.rgba a.memory a.shade_alpha a.mask a.coverage)
 
-pub blend-spec : {M : Type 1} → statement M
-blend-spec =
+pub blend_spec : {M : Type 1} → statement M
+blend_spec =
     tie.close
-    (tie.spec combiner-of-requires render-mode-requires blend-requires blended-requires returns)
+    (tie.spec combiner_of-k-requires render_mode-requires blend-requires blended-requires returns)

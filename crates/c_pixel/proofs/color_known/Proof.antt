@@ -6,29 +6,29 @@ use borrow.Author.Rules.{rules}
 use Rattle.c_pixel.proofs.color_known.Statement.{statement}
 use Rattle.c_pixel.proofs.color_known.Tie as tie
 
-memory-coverage-requires : tie.Need-memory-coverage-requires
-memory-coverage-requires c κs = search rules
+memory_coverage-under-requires : tie.Need-memory_coverage-under-requires
+memory_coverage-under-requires c κs = search rules
 
-render-mode-requires : tie.Need-render-mode-requires
-render-mode-requires c κs = search rules
+render_mode-requires : tie.Need-render_mode-requires
+render_mode-requires c κs = search rules
 
-color-known-requires : tie.Need-color-known-requires
-color-known-requires c κs = search rules
+color_known-requires : tie.Need-color_known-requires
+color_known-requires c κs = search rules
 
-yes-or-no-requires : tie.Need-yes-or-no-requires
-yes-or-no-requires c κs = search rules
+yes_or_no-requires : tie.Need-yes_or_no-requires
+yes_or_no-requires c κs = search rules
 
 returns : tie.Need-returns
 returns c =
-    let a = c.before.before.before.before.args in
-    answered answer_means bit c.before.color-known.result c.yes_or_no.ensures c.before.color-known.ensures (λ i. color_known_call (c.before.before.render-mode.ensures i) a.alpha a.mask (c.before.before.before.memory-coverage.ensures i) a.memory-rgb)
+    let a = c.args in
+    answered answer_means bit c.color_known.result c.yes_or_no.ensures c.color_known.ensures (λ i. color_known_call (c.render_mode.ensures i) a.alpha a.mask (c.memory_coverage-under.ensures i) a.memory_rgb)
 
-pub color-known-spec : {M : Type 1} → statement M
-color-known-spec =
+pub color_known_spec : {M : Type 1} → statement M
+color_known_spec =
     tie.close
     (tie.spec
-    memory-coverage-requires
-    render-mode-requires
-    color-known-requires
-    yes-or-no-requires
+    memory_coverage-under-requires
+    render_mode-requires
+    color_known-requires
+    yes_or_no-requires
     returns)

@@ -6,8 +6,8 @@ use borrow.Author.Rules.{rules}
 use Rattle.c_pixel.proofs.destination.Statement.{statement}
 use Rattle.c_pixel.proofs.destination.Tie as tie
 
-render-mode-requires : tie.Need-render-mode-requires
-render-mode-requires c κs = search rules
+render_mode-requires : tie.Need-render_mode-requires
+render_mode-requires c κs = search rules
 
 destination-requires : tie.Need-destination-requires
 destination-requires c κs = search rules
@@ -17,9 +17,9 @@ stored-requires c κs = search rules
 
 returns : tie.Need-returns
 returns c =
-    let a = c.before.before.before.args in
-    answered destination_means same c.before.destination.result c.stored.ensures c.before.destination.ensures (λ i. destination_call (c.before.before.render-mode.ensures i) a.mask a.memory)
+    let a = c.args in
+    answered destination_means same c.destination.result c.stored.ensures c.destination.ensures (λ i. destination_call (c.render_mode.ensures i) a.mask a.memory)
 
-pub destination-spec : {M : Type 1} → statement M
-destination-spec =
-    tie.close (tie.spec render-mode-requires destination-requires stored-requires returns)
+pub destination_spec : {M : Type 1} → statement M
+destination_spec =
+    tie.close (tie.spec render_mode-requires destination-requires stored-requires returns)

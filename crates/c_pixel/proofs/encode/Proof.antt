@@ -6,17 +6,17 @@ use borrow.Author.Rules.{rules}
 use Rattle.c_pixel.proofs.encode.Statement.{statement}
 use Rattle.c_pixel.proofs.encode.Tie as tie
 
-image-writer-requires : tie.Need-image-writer-requires
-image-writer-requires c κs = search rules
+image_writer-writer-requires : tie.Need-image_writer-writer-requires
+image_writer-writer-requires c κs = search rules
 
-bytes-of-word-requires : tie.Need-bytes-of-word-requires
-bytes-of-word-requires c κs = search rules
+bytes_of_word-bytes-requires : tie.Need-bytes_of_word-bytes-requires
+bytes_of_word-bytes-requires c κs = search rules
 
-literal-word-requires : tie.Need-literal-word-requires
-literal-word-requires c κs = search rules
+literal_word-given-requires : tie.Need-literal_word-given-requires
+literal_word-given-requires c κs = search rules
 
-byte-order-requires : tie.Need-byte-order-requires
-byte-order-requires c κs = search rules
+byte_order-order-requires : tie.Need-byte_order-order-requires
+byte_order-order-requires c κs = search rules
 
 encode-requires : tie.Need-encode-requires
 encode-requires c κs = search rules
@@ -26,17 +26,17 @@ encoded-requires c κs = search rules
 
 returns : tie.Need-returns
 returns c =
-    let a = c.before.before.before.before.before.before.args in
-    answered encode_means two_bytes c.before.encode.result c.encoded.ensures c.before.encode.ensures (λ i. encode_call (c.before.before.before.before.before.image-writer.ensures i) (c.before.before.before.before.bytes-of-word.ensures i) a.coverage a.pixel (c.before.before.before.literal-word.ensures i) a.rgb-dither (c.before.before.byte-order.ensures i))
+    let a = c.args in
+    answered encode_means two_bytes c.encode.result c.encoded.ensures c.encode.ensures (λ i. encode_call (c.image_writer-writer.ensures i) (c.bytes_of_word-bytes.ensures i) a.coverage a.pixel (c.literal_word-given.ensures i) a.rgb_dither (c.byte_order-order.ensures i))
 
-pub encode-spec : {M : Type 1} → statement M
-encode-spec =
+pub encode_spec : {M : Type 1} → statement M
+encode_spec =
     tie.close
     (tie.spec
-    image-writer-requires
-    bytes-of-word-requires
-    literal-word-requires
-    byte-order-requires
+    image_writer-writer-requires
+    bytes_of_word-bytes-requires
+    literal_word-given-requires
+    byte_order-order-requires
     encode-requires
     encoded-requires
     returns)

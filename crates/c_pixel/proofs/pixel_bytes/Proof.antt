@@ -9,45 +9,45 @@ use borrow.Author.Rules.{rules}
 use Rattle.c_pixel.proofs.pixel_bytes.Statement.{statement}
 use Rattle.c_pixel.proofs.pixel_bytes.Tie as tie
 
-image-writer-requires : tie.Need-image-writer-requires
-image-writer-requires c κs = search rules
+image_writer-requires : tie.Need-image_writer-requires
+image_writer-requires c κs = search rules
 
-pixel-bytes-requires : tie.Need-pixel-bytes-requires
-pixel-bytes-requires c κs = search rules
+pixel_bytes-size-requires : tie.Need-pixel_bytes-size-requires
+pixel_bytes-size-requires c κs = search rules
 
-enum-known-size : tie.Need-enum-known-size
-enum-known-size c = search rules
+enum_known-size : tie.Need-enum_known-size
+enum_known-size c = search rules
 
-cast-t9 : tie.Need-overflow-cast-t9
-cast-t9 c =
-    let p = c.before.before.before in
-    omega (arith, ap (λ o. o.value) (sym (ap pixel_bytes_means c.before.size.given.1) ∙ p.pixel-bytes.ensures), size_small p.before.image-writer.result)
+overflow_cast-result : tie.Need-overflow_cast-result
+overflow_cast-result c =
+    let p = c.before in
+    omega (arith, ap (λ o. o.value) (sym (ap pixel_bytes_means c.in-Bytes.is) ∙ p.pixel_bytes-size.ensures), size_small p.image_writer.result)
 
-enum_told : tie.Need-enum-told
-enum_told c = search rules
+enum_told-1 : tie.Need-enum_told-1
+enum_told-1 c = search rules
 
-turned-away-requires : tie.Need-turned-away-requires
-turned-away-requires c κs = search rules
+turned_away-requires : tie.Need-turned_away-requires
+turned_away-requires c κs = search rules
 
-returns : tie.Need-returns
-returns c =
-    let p = c.before.before.before in
-    answered pixel_bytes_means same p.pixel-bytes.result (arm pixel_bytes_means same c.before.size.given.1) p.pixel-bytes.ensures (λ i. pixel_bytes_call (p.before.image-writer.ensures i))
+returns-in-Bytes : tie.Need-returns-in-Bytes
+returns-in-Bytes c =
+    let p = c.before in
+    answered pixel_bytes_means same p.pixel_bytes-size.result (arm pixel_bytes_means same c.in-Bytes.is) p.pixel_bytes-size.ensures (λ i. pixel_bytes_call (p.image_writer.ensures i))
 
-returns-2 : tie.Need-returns-2
-returns-2 c =
-    let p = c.before.before.before in
-    answered pixel_bytes_means same p.pixel-bytes.result (c.turned-away.ensures ∙ arm pixel_bytes_means same c.before.enum_told.given.1) p.pixel-bytes.ensures (λ i. pixel_bytes_call (p.before.image-writer.ensures i))
+returns-in-Refused : tie.Need-returns-in-Refused
+returns-in-Refused c =
+    let p = c.before.before in
+    answered pixel_bytes_means same p.pixel_bytes-size.result (c.turned_away.ensures ∙ arm pixel_bytes_means same c.in-Refused.is) p.pixel_bytes-size.ensures (λ i. pixel_bytes_call (p.image_writer.ensures i))
 
-pub pixel-bytes-spec : {M : Type 1} → statement M
-pixel-bytes-spec =
+pub pixel_bytes_spec : {M : Type 1} → statement M
+pixel_bytes_spec =
     tie.close
     (tie.spec
-    image-writer-requires
-    pixel-bytes-requires
-    enum-known-size
-    cast-t9
-    enum_told
-    turned-away-requires
-    returns
-    returns-2)
+    image_writer-requires
+    pixel_bytes-size-requires
+    enum_known-size
+    overflow_cast-result
+    enum_told-1
+    turned_away-requires
+    returns-in-Bytes
+    returns-in-Refused)
