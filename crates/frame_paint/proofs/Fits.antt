@@ -33,4 +33,4 @@ module _ (mode : RenderMode) (k : Combiner) where
 
   pub fit_list : {m n : ℕ} {f : Frame} {es : List Emit} → Fit n f → Placed m es → Fit n (draw_list mode k f es)
   fit_list h Placed.none = h
-  fit_list h (Placed.more {e} l c p) = fit_list (fit_step e h c.0 c.1) p
+  fit_list {m = m} {n = n} {f = f} h (Placed.more {e = e} {es = es} l c p) = fit_list {f = step_frame mode k f e} (fit_step e h c.0 c.1) p

@@ -1,7 +1,6 @@
 -- How many pixels a row and rows emit, and a full pixel of the paint's own colour. Assumes nothing.
 use mathlib.Core.Path.{◌≡◌, refl, sym, ◌∙◌}
 use mathlib.Core.Bool.{Bool, true, false, cond}
-use mathlib.Core.List.{List, [], ◌∷◌}
 use Prim.Native.Nat.{ℕ, ◌+◌, ◌-◌, ◌*◌, ◌≤◌}
 use native.Mathlib.Omega.{arith}
 use lib.ListN.{length}
@@ -11,7 +10,7 @@ use Rattle.raster_edges.specs.declared.Edges.{Edges}
 use Rattle.raster_vertex.specs.declared.row.ShadeRow.{ShadeRow}
 use Rattle.raster_pixel.specs.declared.Fragment.{Fragment}
 use Rattle.raster_pixel.specs.declared.Fragment.TheVariants.{Empty, Covered}
-use Rattle.raster_pixel.specs.Emitted.{Emit, shown, covered, emits}
+use Rattle.raster_pixel.specs.Emitted.{shown, covered, emits}
 use Rattle.raster_pixel.specs.Parts.{from}
 use Rattle.raster_pixel.proofs.Parts.{parts_bound}
 use Rattle.frame_paint.specs.declared.prepare.Paint.{Paint}

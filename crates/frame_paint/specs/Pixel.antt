@@ -1,5 +1,5 @@
 -- Inner vocabulary. What a part of a draw does, one emitted pixel, and the room that a frame has for the pixels of its rows. Definitions only.
-use Rattle.std.specs.Prelude.{ℕ, ◌*◌, ◌≤◌, ◌≡◌, Float, length, List}
+use Rattle.std.specs.Prelude.{ℕ, ◌*◌, ◌≤◌, Float, length, List}
 use Rattle.state.specs.declared.Rgba.{Rgba}
 use Rattle.raster_pixel.specs.Emitted.{Emit}
 use Rattle.frame.specs.Frame.{Frame}

@@ -5,55 +5,50 @@ use borrow.Author.Rules.{rules}
 use Rattle.frame_paint.proofs.fill.fill_pixel.Statement.{statement}
 use Rattle.frame_paint.proofs.fill.fill_pixel.Tie as tie
 
-slice-read-mark : tie.Need-slice-read-mark
-slice-read-mark c = search rules
+bounds-marks-pixel : tie.Need-bounds-marks-pixel
+bounds-marks-pixel c = search rules
 
-coverage-marked-requires : tie.Need-coverage-marked-requires
-coverage-marked-requires c κs = search rules
+coverage_marked-covered-requires : tie.Need-coverage_marked-covered-requires
+coverage_marked-covered-requires c κs = search rules
 
-full-known-requires : tie.Need-full-known-requires
-full-known-requires c κs = search rules
+full_known-known-requires : tie.Need-full_known-known-requires
+full_known-known-requires c κs = search rules
 
-full-colors-requires : tie.Need-full-colors-requires
-full-colors-requires c κs = search rules
+full_colors-new-requires : tie.Need-full_colors-new-requires
+full_colors-new-requires c κs = search rules
 
-mark-of-requires : tie.Need-mark-of-requires
-mark-of-requires c κs = search rules
+mark_of-requires : tie.Need-mark_of-requires
+mark_of-requires c κs = search rules
 
 store-requires : tie.Need-store-requires
 store-requires c κs = search rules
 
-same_length : tie.Need-same-length
-same_length c = search rules
+shape_of-colors : tie.Need-shape_of-colors
+shape_of-colors c = search rules
 
-same-length-2 : tie.Need-same-length-2
-same-length-2 c = search rules
+shape_of-coverages : tie.Need-shape_of-coverages
+shape_of-coverages c = search rules
 
-same-length-3 : tie.Need-same-length-3
-same-length-3 c = search rules
+shape_of-marks : tie.Need-shape_of-marks
+shape_of-marks c = search rules
 
 returns : tie.Need-returns
 returns c =
-    let st = c.before.before.before.before.before.before in
-    let mk = st.before.before.before.before.before in
-    let fc = mk.before in
-    let fk = fc.before.before.before in
-    let s = fk.before.before.before.before.before.before in
-    let a = s.args in
-    filled a.full (frame_of a.colors.now a.coverages.now a.marks.now) a.pixel s.requires.0 s.requires.1.0
-    fk.before.coverage-marked.ensures fk.full-known.ensures fc.full-colors.ensures s.requires.1.1 mk.mark_of.ensures st.store.ensures
+    let a = c.args in
+    filled a.full (frame_of a.colors.now a.coverages.now a.marks.now) a.pixel c.requires.0 c.requires.1.0
+    c.coverage_marked-covered.ensures c.full_known-known.ensures c.full_colors-new.ensures c.requires.1.1 c.mark_of.ensures c.store.ensures
 
-pub fill-pixel-spec : {M : Type 1} → statement M
-fill-pixel-spec =
+pub fill_pixel_spec : {M : Type 1} → statement M
+fill_pixel_spec =
     tie.close
     (tie.spec
-    slice-read-mark
-    coverage-marked-requires
-    full-known-requires
-    full-colors-requires
-    mark-of-requires
+    bounds-marks-pixel
+    coverage_marked-covered-requires
+    full_known-known-requires
+    full_colors-new-requires
+    mark_of-requires
     store-requires
-    same_length
-    same-length-2
-    same-length-3
+    shape_of-colors
+    shape_of-coverages
+    shape_of-marks
     returns)

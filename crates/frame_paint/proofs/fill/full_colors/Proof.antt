@@ -9,25 +9,25 @@ use borrow.Author.Rules.{rules}
 use Rattle.frame_paint.proofs.fill.full_colors.Statement.{statement}
 use Rattle.frame_paint.proofs.fill.full_colors.Tie as tie
 
-known-color-requires : tie.Need-known-color-requires
-known-color-requires c κs = search rules
+known_color-memory-requires : tie.Need-known_color-memory-requires
+known_color-memory-requires c κs = search rules
 
-over-colors-requires : tie.Need-over-colors-requires
-over-colors-requires c κs = search rules
+over_colors-requires : tie.Need-over_colors-requires
+over_colors-requires c κs = search rules
+
+returns-then-full : tie.Need-returns-then-full
+returns-then-full c =
+    let t = c.before.before in
+    let a = t.args in
+    let memory = colors_if (color_marked (get_or a.marks.now a.pixel 0)) (colors_at a.colors.now a.pixel) in
+    c.over_colors.ensures ∙ ap (over_colors a.full.layer) c.known_color-memory.ensures ∙ (λ i. cond (sym t.if-full.true i) (over_colors a.full.layer memory) a.full.own)
 
 returns : tie.Need-returns
 returns c =
-    let t = c.before.before in
-    let a = t.before.before.before.args in
-    let memory = colors_if (color_marked (get_or a.marks.now a.pixel 0)) (colors_at a.colors.now a.pixel) in
-    c.over-colors.ensures ∙ ap (over_colors a.full.layer) c.before.known-color.ensures ∙ (λ i. cond (sym t.if1.true i) (over_colors a.full.layer memory) a.full.own)
-
-returns-2 : tie.Need-returns-2
-returns-2 c =
     let t = c.before in
-    let a = t.before.before.before.args in
+    let a = t.args in
     let memory = colors_if (color_marked (get_or a.marks.now a.pixel 0)) (colors_at a.colors.now a.pixel) in
-    λ i. cond (sym t.if1.false i) (over_colors a.full.layer memory) a.full.own
+    λ i. cond (sym t.if-full.false i) (over_colors a.full.layer memory) a.full.own
 
-pub full-colors-spec : {M : Type 1} → statement M
-full-colors-spec = tie.close (tie.spec known-color-requires over-colors-requires returns returns-2)
+pub full_colors_spec : {M : Type 1} → statement M
+full_colors_spec = tie.close (tie.spec known_color-memory-requires over_colors-requires returns-then-full returns)

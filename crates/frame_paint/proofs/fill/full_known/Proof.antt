@@ -6,16 +6,16 @@ use borrow.Author.Rules.{rules}
 use Rattle.frame_paint.proofs.fill.full_known.Statement.{statement}
 use Rattle.frame_paint.proofs.fill.full_known.Tie as tie
 
-color-marked-requires : tie.Need-color-marked-requires
-color-marked-requires c κs = search rules
+color_marked-requires : tie.Need-color_marked-requires
+color_marked-requires c κs = search rules
+
+returns-then-full : tie.Need-returns-then-full
+returns-then-full c =
+    let a = c.args in
+    c.color_marked.ensures ∙ (λ i. cond (sym c.if-full.true i) (color_marked a.mark) (a.full.sure || a.covered))
 
 returns : tie.Need-returns
-returns c =
-    let a = c.before.before.args in
-    c.color-marked.ensures ∙ (λ i. cond (sym c.before.if1.true i) (color_marked a.mark) (a.full.sure || a.covered))
+returns c = let a = c.args in λ i. cond (sym c.if-full.false i) (color_marked a.mark) (a.full.sure || a.covered)
 
-returns-2 : tie.Need-returns-2
-returns-2 c = let a = c.before.before.args in λ i. cond (sym c.before.if1.false i) (color_marked a.mark) (a.full.sure || a.covered)
-
-pub full-known-spec : {M : Type 1} → statement M
-full-known-spec = tie.close (tie.spec color-marked-requires returns returns-2)
+pub full_known_spec : {M : Type 1} → statement M
+full_known_spec = tie.close (tie.spec color_marked-requires returns-then-full returns)

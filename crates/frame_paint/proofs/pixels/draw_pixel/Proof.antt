@@ -13,64 +13,57 @@ use borrow.Author.Rules.{rules}
 use Rattle.frame_paint.proofs.pixels.draw_pixel.Statement.{statement}
 use Rattle.frame_paint.proofs.pixels.draw_pixel.Tie as tie
 
-known-pixel-requires : tie.Need-known-pixel-requires
-known-pixel-requires c κs = let s = c.before.before.before.before.before.before in fit_loadable s.requires.1.1.0 s.requires.1.0
+known_pixel-before-requires : tie.Need-known_pixel-before-requires
+known_pixel-before-requires c κs = fit_loadable c.requires.1.1.0 c.requires.1.0
 
-ones-requires : tie.Need-ones-requires
-ones-requires c κs = search rules
+ones-count-requires : tie.Need-ones-count-requires
+ones-count-requires c κs = search rules
 
-coloring-of-requires : tie.Need-coloring-of-requires
-coloring-of-requires c κs = search rules
+coloring_of-coloring-requires : tie.Need-coloring_of-coloring-requires
+coloring_of-coloring-requires c κs = search rules
 
-step-requires : tie.Need-step-requires
-step-requires c κs =
-    let n = c.before in
-    let s = n.before.before.before.before.before.before.before.before in
-    let a = s.args in
+step-after-requires : tie.Need-step-after-requires
+step-after-requires c κs =
+    let a = c.args in
     let f = frame_of a.colors.now a.coverages.now a.marks.now in
-    let r = ones_range a.mask s.requires.0 (omega arith) in (
-      omega (arith, r.0, r.1, n.ones.ensures),
+    let r = ones_range a.mask c.requires.0 (omega arith) in (
+      omega (arith, r.0, r.1, c.ones-count.ensures),
       (
-        subst (λ (x : Pixel). or_zero (coverage_at x) ≤ 7) (sym n.before.known-pixel.ensures)
-            (subst (λ (m : ℕ). m ≤ 7) (sym (known_sound (pixel_at f a.pixel))) (s.requires.1.1.0.sound a.pixel)),
-        c.coloring-of.ensures,
+        subst (λ (x : Pixel). or_zero (coverage_at x) ≤ 7) (sym c.known_pixel-before.ensures)
+            (subst (λ (m : ℕ). m ≤ 7) (sym (known_sound (pixel_at f a.pixel))) (c.requires.1.1.0.sound a.pixel)),
+        c.coloring_of-coloring.ensures,
       ),
     )
 
-put-pixel-requires : tie.Need-put-pixel-requires
-put-pixel-requires c κs =
-    let s = c.before.before.before.before.before.before.before.before.before.before.before.before.before in
-    (s.requires.1.0, record { colors = rw s.requires.1.1.0.marks s.requires.1.1.0.colors; coverages = rw s.requires.1.1.0.marks s.requires.1.1.0.coverages })
+put_pixel-requires : tie.Need-put_pixel-requires
+put_pixel-requires c κs =
+    (c.requires.1.0, record { colors = rw c.requires.1.1.0.marks c.requires.1.1.0.colors; coverages = rw c.requires.1.1.0.marks c.requires.1.1.0.coverages })
 
-same_length : tie.Need-same-length
-same_length c = search rules
+shape_of-colors : tie.Need-shape_of-colors
+shape_of-colors c = search rules
 
-same-length-2 : tie.Need-same-length-2
-same-length-2 c = search rules
+shape_of-coverages : tie.Need-shape_of-coverages
+shape_of-coverages c = search rules
 
-same-length-3 : tie.Need-same-length-3
-same-length-3 c = search rules
+shape_of-marks : tie.Need-shape_of-marks
+shape_of-marks c = search rules
 
 returns : tie.Need-returns
 returns c =
-    let pc = c.before.before.before.before.before.before in
-    let st = pc.before.before.before.before in
-    let n = st.before.before in
-    let s = n.before.before.before.before.before.before.before.before in
-    stored-known _ _ _ _ _ _ _ n.ones.ensures n.before.known-pixel.ensures st.step.ensures pc.put-pixel.ensures
-    (omega (arith, s.requires.1.0, s.requires.1.1.0.colors))
-    (omega (arith, s.requires.1.0, s.requires.1.1.0.coverages))
+    stored-known _ _ _ _ _ _ _ c.ones-count.ensures c.known_pixel-before.ensures c.step-after.ensures c.put_pixel.ensures
+    (omega (arith, c.requires.1.0, c.requires.1.1.0.colors))
+    (omega (arith, c.requires.1.0, c.requires.1.1.0.coverages))
 
-pub draw-pixel-spec : {M : Type 1} → statement M
-draw-pixel-spec =
+pub draw_pixel_spec : {M : Type 1} → statement M
+draw_pixel_spec =
     tie.close
     (tie.spec
-    known-pixel-requires
-    ones-requires
-    coloring-of-requires
-    step-requires
-    put-pixel-requires
-    same_length
-    same-length-2
-    same-length-3
+    known_pixel-before-requires
+    ones-count-requires
+    coloring_of-coloring-requires
+    step-after-requires
+    put_pixel-requires
+    shape_of-colors
+    shape_of-coverages
+    shape_of-marks
     returns)

@@ -5,23 +5,23 @@ use borrow.Author.Rules.{rules}
 use Rattle.frame_paint.proofs.prepare.bytes_of.Statement.{statement}
 use Rattle.frame_paint.proofs.prepare.bytes_of.Tie as tie
 
-byte-of-requires : tie.Need-byte-of-requires
-byte-of-requires c κs = search rules
+byte_of-red-requires : tie.Need-byte_of-red-requires
+byte_of-red-requires c κs = search rules
 
-byte-of-requires-2 : tie.Need-byte-of-requires-2
-byte-of-requires-2 c κs = search rules
+byte_of-green-requires : tie.Need-byte_of-green-requires
+byte_of-green-requires c κs = search rules
 
-byte-of-requires-3 : tie.Need-byte-of-requires-3
-byte-of-requires-3 c κs = search rules
+byte_of-blue-requires : tie.Need-byte_of-blue-requires
+byte_of-blue-requires c κs = search rules
+
+returns-then-plain : tie.Need-returns-then-plain
+returns-then-plain c =
+    let a = c.args in
+    λ i. cond (sym c.if-plain.true i) (record { red = c.byte_of-red.ensures i; green = c.byte_of-green.ensures i; blue = c.byte_of-blue.ensures i }) a.own
 
 returns : tie.Need-returns
-returns c =
-    let a = c.before.before.before.before.args in
-    λ i. cond (sym c.before.before.before.if1.true i) (record { red = c.before.before.byte-of.ensures i; green = c.before.byte-of2.ensures i; blue = c.byte-of3.ensures i }) a.own
+returns c = search rules
 
-returns-2 : tie.Need-returns-2
-returns-2 c = search rules
-
-pub bytes-of-spec : {M : Type 1} → statement M
-bytes-of-spec =
-    tie.close (tie.spec byte-of-requires byte-of-requires-2 byte-of-requires-3 returns returns-2)
+pub bytes_of_spec : {M : Type 1} → statement M
+bytes_of_spec =
+    tie.close (tie.spec byte_of-red-requires byte_of-green-requires byte_of-blue-requires returns-then-plain returns)

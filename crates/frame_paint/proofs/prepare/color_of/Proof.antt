@@ -10,11 +10,11 @@ use borrow.Author.Rules.{rules}
 use Rattle.frame_paint.proofs.prepare.color_of.Statement.{statement}
 use Rattle.frame_paint.proofs.prepare.color_of.Tie as tie
 
-enum-known-color : tie.Need-enum-known-color
-enum-known-color c = search rules
+enum_known-color : tie.Need-enum_known-color
+enum_known-color c = search rules
 
-enum_told : tie.Need-enum-told
-enum_told c = search rules
+enum_told-1 : tie.Need-enum_told-1
+enum_told-1 c = search rules
 
 abbrev is_value : Color → Bool
 is_value color.Refused = false
@@ -24,11 +24,11 @@ abbrev value_of : Color → Rgba
 value_of color.Refused = record { r = f0; g = f0; b = f0; a = f0 }
 value_of (color.Value r g b a) = record { r = r; g = g; b = b; a = a }
 
+returns-in_default : tie.Need-returns-in_default
+returns-in_default c = λ k e. never (ap is_value (sym c.in_default.is ∙ e))
+
 returns : tie.Need-returns
-returns c = λ k e. never (ap is_value (sym c.enum_told.given.1 ∙ e))
+returns c = λ k e. ap value_of (sym c.in-Value.is ∙ e)
 
-returns-2 : tie.Need-returns-2
-returns-2 c = λ k e. ap value_of (sym c.before.color.given.1 ∙ e)
-
-pub color-of-spec : {M : Type 1} → statement M
-color-of-spec = tie.close (tie.spec enum-known-color enum_told returns returns-2)
+pub color_of_spec : {M : Type 1} → statement M
+color_of_spec = tie.close (tie.spec enum_known-color enum_told-1 returns-in_default returns)

@@ -8,39 +8,39 @@ use Rattle.frame_paint.proofs.prepare.coloring_of.Tie as tie
 opaque-requires : tie.Need-opaque-requires
 opaque-requires c κs = search rules
 
-bytes-of-requires : tie.Need-bytes-of-requires
-bytes-of-requires c κs = search rules
+bytes_of-requires : tie.Need-bytes_of-requires
+bytes_of-requires c κs = search rules
 
-returns : tie.Need-returns
+returns-then-opaque : tie.Need-returns-then-opaque
 unfolding ColoringOf
-returns c =
+returns-then-opaque c =
     let t = c.before in
     let s = t.before.before in
-    let yes = sym t.before.opaque.ensures ∙ t.if1.true in
+    let yes = sym t.opaque.ensures ∙ t.if-opaque.true in
     (yes, c.bytes_of.ensures ∙ s.requires s.args.color yes)
 
 layered-requires : tie.Need-layered-requires
 layered-requires c κs = search rules
 
-layer-of-requires : tie.Need-layer-of-requires
-layer-of-requires c κs = search rules
+layer_of-requires : tie.Need-layer_of-requires
+layer_of-requires c κs = search rules
 
-returns-2 : tie.Need-returns-2
+returns-then-layered : tie.Need-returns-then-layered
 unfolding ColoringOf
-returns-2 c = let t = c.before in (sym t.before.layered.ensures ∙ t.if2.true, c.layer-of.ensures)
+returns-then-layered c = let t = c.before in (sym t.layered.ensures ∙ t.if-layered.true, c.layer_of.ensures)
 
-returns-3 : tie.Need-returns-3
+returns : tie.Need-returns
 unfolding ColoringOf
-returns-3 c = tt
+returns c = tt
 
-pub coloring-of-spec : {M : Type 1} → statement M
-coloring-of-spec =
+pub coloring_of_spec : {M : Type 1} → statement M
+coloring_of_spec =
     tie.close
     (tie.spec
     opaque-requires
-    bytes-of-requires
-    returns
+    bytes_of-requires
+    returns-then-opaque
     layered-requires
-    layer-of-requires
-    returns-2
-    returns-3)
+    layer_of-requires
+    returns-then-layered
+    returns)

@@ -7,29 +7,29 @@ use borrow.Author.Rules.{rules}
 use Rattle.frame_paint.proofs.prepare.prepare.Statement.{statement}
 use Rattle.frame_paint.proofs.prepare.prepare.Tie as tie
 
-resolve-requires : tie.Need-resolve-requires
-resolve-requires c κs = search rules
+resolve-resolved-requires : tie.Need-resolve-resolved-requires
+resolve-resolved-requires c κs = search rules
 
-full-shade-requires : tie.Need-full-shade-requires
-full-shade-requires c κs = search rules
+full_shade-requires : tie.Need-full_shade-requires
+full_shade-requires c κs = search rules
 
 color-requires : tie.Need-color-requires
 color-requires c κs = search rules
 
-color-of-requires : tie.Need-color-of-requires
-color-of-requires c κs = search rules
+color_of-color-requires : tie.Need-color_of-color-requires
+color_of-color-requires c κs = search rules
 
-full-of-requires : tie.Need-full-of-requires
-full-of-requires c κs = search rules
+full_of-full-requires : tie.Need-full_of-full-requires
+full_of-full-requires c κs = search rules
 
-steady-requires : tie.Need-steady-requires
-steady-requires c κs = search rules
+steady-steady-requires : tie.Need-steady-steady-requires
+steady-steady-requires c κs = search rules
 
-uses-shade-requires : tie.Need-uses-shade-requires
-uses-shade-requires c κs = search rules
+uses_shade-shaded-requires : tie.Need-uses_shade-shaded-requires
+uses_shade-shaded-requires c κs = search rules
 
-decode-mux-requires : tie.Need-decode-mux-requires
-decode-mux-requires c κs = search rules
+decode_mux-mux-requires : tie.Need-decode_mux-mux-requires
+decode_mux-mux-requires c κs = search rules
 
 returns : tie.Need-returns
 returns c =
@@ -41,20 +41,20 @@ returns c =
     let s = k.before.before.before.before in
     let a = s.args in
     let v = mixed_by (resolved_of a.combiner) full_shade in
-    let there = k.before.color.ensures.1 ∙ ap (color_of a.combiner) k.before.before.full-shade.ensures ∙ s.requires full_shade in
-    let color = s.requires full_shade ∙ ap color_value (sym (k.color-of.ensures v there)) in
-    (refl, (refl, prepared _ _ _ _ k.before.before.before.resolve.ensures color f.full-of.ensures t.steady.ensures u.uses-shade.ensures m.decode-mux.ensures))
+    let there = k.color.ensures.1 ∙ ap (color_of a.combiner) k.full_shade.ensures ∙ s.requires full_shade in
+    let color = s.requires full_shade ∙ ap color_value (sym (k.color_of-color.ensures v there)) in
+    (refl, (refl, prepared _ _ _ _ k.resolve-resolved.ensures color f.full_of-full.ensures t.steady-steady.ensures u.uses_shade-shaded.ensures m.decode_mux-mux.ensures))
 
-pub prepare-spec : {M : Type 1} → statement M
-prepare-spec =
+pub prepare_spec : {M : Type 1} → statement M
+prepare_spec =
     tie.close
     (tie.spec
-    resolve-requires
-    full-shade-requires
+    resolve-resolved-requires
+    full_shade-requires
     color-requires
-    color-of-requires
-    full-of-requires
-    steady-requires
-    uses-shade-requires
-    decode-mux-requires
+    color_of-color-requires
+    full_of-full-requires
+    steady-steady-requires
+    uses_shade-shaded-requires
+    decode_mux-mux-requires
     returns)

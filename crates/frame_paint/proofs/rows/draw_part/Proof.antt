@@ -12,82 +12,82 @@ use borrow.Author.Rules.{rules}
 use Rattle.frame_paint.proofs.rows.draw_part.Statement.{statement}
 use Rattle.frame_paint.proofs.rows.draw_part.Tie as tie
 
-add-if1 : tie.Need-overflow-add-if1
-add-if1 c = search rules
+overflow_add-x : tie.Need-overflow_add-x
+overflow_add-x c = search rules
 
-fill-row-requires : tie.Need-fill-row-requires
-fill-row-requires c κs =
+fill_row-requires : tie.Need-fill_row-requires
+fill_row-requires c κs =
     let t = c.before.before.before in
     let s = t.before.before.before.before in
-    let r = s.requires.0.4 t.if1.true in
+    let r = s.requires.0.4 t.if-x-next.true in
     ((omega (arith, s.requires.0.0), s.requires.0.1, s.requires.0.3, r.1), s.requires.1)
 
-same_length : tie.Need-same-length
-same_length c = search rules
+shape_of-colors-then-x-next : tie.Need-shape_of-colors-then-x-next
+shape_of-colors-then-x-next c = search rules
 
-same-length-2 : tie.Need-same-length-2
-same-length-2 c = search rules
+shape_of-coverages-then-x-next : tie.Need-shape_of-coverages-then-x-next
+shape_of-coverages-then-x-next c = search rules
 
-same-length-3 : tie.Need-same-length-3
-same-length-3 c = search rules
+shape_of-marks-then-x-next : tie.Need-shape_of-marks-then-x-next
+shape_of-marks-then-x-next c = search rules
 
-returns : tie.Need-returns
-returns c =
+returns-then-x-next : tie.Need-returns-then-x-next
+returns-then-x-next c =
     let f = c.before.before.before.before.before.before in
     let t = f.before.before.before.before in
     let s = t.before.before.before.before in
     let a = s.args in
-    let r = s.requires.0.4 t.if1.true in
+    let r = s.requires.0.4 t.if-x-next.true in
     drew-as
     (from_same (full_at a.paint.color a.width a.y) (row_at a.paint a.flat a.row a.edges a.width a.y) a.x a.next
     (λ x p q. full-row a.paint a.row a.edges a.width a.y x r.0 (s.requires.0.2 x (omega (arith, r.2)) (omega (arith, r.3)))))
-    f.fill-row.ensures
+    f.fill_row.ensures
 
-samples-requires : tie.Need-samples-requires
-samples-requires c κs = search rules
+samples-mask-requires : tie.Need-samples-mask-requires
+samples-mask-requires c κs = search rules
 
-row-pixel-requires : tie.Need-row-pixel-requires
-row-pixel-requires c κs =
+row_pixel-requires : tie.Need-row_pixel-requires
+row_pixel-requires c κs =
     let s = c.before.before.before.before.before.before.before.before in
     ((omega (arith, s.requires.0.0, s.requires.0.1), own_bytes s.args.paint s.requires.0.3), s.requires.1)
 
-same-length-4 : tie.Need-same-length-4
-same-length-4 c = search rules
+shape_of-colors : tie.Need-shape_of-colors
+shape_of-colors c = search rules
 
-same-length-5 : tie.Need-same-length-5
-same-length-5 c = search rules
+shape_of-coverages : tie.Need-shape_of-coverages
+shape_of-coverages c = search rules
 
-same-length-6 : tie.Need-same-length-6
-same-length-6 c = search rules
+shape_of-marks : tie.Need-shape_of-marks
+shape_of-marks c = search rules
 
-returns-2 : tie.Need-returns-2
-returns-2 c =
+returns : tie.Need-returns
+returns c =
     let p = c.before.before.before.before.before.before in
     let m = p.before.before.before.before in
     let e = m.before in
     let s = e.before.before.before.before in
     let a = s.args in
     let c' = row_at a.paint a.flat a.row a.edges a.width a.y in
-    let one : a.x + 1 ≡ a.next = omega (arith, e.if1.false, s.requires.0.0) in
+    let one : a.x + 1 ≡ a.next = omega (arith, e.if-x-next.false, s.requires.0.0) in
     drew-as
-    ((λ i. pixel_of a.paint.mode.antialias (m.samples.ensures i) (hue_of a.paint.resolved a.paint.color a.flat a.row a.x) a.width a.y a.x)
+    ((λ i. pixel_of a.paint.mode.antialias (m.samples-mask.ensures i) (hue_of a.paint.resolved a.paint.color a.flat a.row a.x) a.width a.y a.x)
     ∙ sym (from_one c' a.x)
     ∙ (λ i. from c' a.x (one i)))
-    p.row-pixel.ensures
+    p.row_pixel.ensures
 
-pub draw-part-spec : {M : Type 1} → statement M
-draw-part-spec =
+pub draw_part_spec : {M : Type 1} → statement M
+draw_part_spec =
     tie.close
     (tie.spec
-    add-if1
-    fill-row-requires
-    same_length
-    same-length-2
-    same-length-3
-    returns
-    samples-requires
-    row-pixel-requires
-    same-length-4
-    same-length-5
-    same-length-6
-    returns-2)
+    overflow_add-x
+    fill_row-requires
+    shape_of-colors-then-x-next
+    shape_of-coverages-then-x-next
+    shape_of-marks-then-x-next
+    returns-then-x-next
+    samples-mask-requires
+    row_pixel-requires
+    shape_of-colors
+    shape_of-coverages
+    shape_of-marks
+    returns)
