@@ -32,7 +32,7 @@ use Rattle.frame_paint.specs.Pixel.{Drew}
 use Rattle.frame_paint.specs.Paint.{Ready}
 use Rattle.frame_paint.proofs.Drawing.{drew-as}
 use Rattle.rasterize.specs.declared.rows.Shading.{Shading}
-use Rattle.rasterize.specs.Shape.{shading_of, shape_pixel, shape_row}
+use Rattle.rasterize.specs.Shape.{shading_of, shape_row}
 use Rattle.rasterize.proofs.Kept.{drew_nothing}
 use Rattle.rasterize.proofs.Shapes.{triangle-pixel, shape-drawn}
 

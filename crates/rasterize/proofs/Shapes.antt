@@ -5,7 +5,6 @@ use mathlib.Core.Bool.{Bool, true, false, cond}
 use mathlib.Core.List.{List}
 use Prim.Native.Nat.{ℕ, ◌+◌, ◌*◌, ◌≤◌, ◌<◌}
 use native.Mathlib.Omega.{arith}
-use lib.Ieee.{Float}
 use Rattle.num_float.specs.Color.{f1}
 use Rattle.combiner.specs.Combine.{color_of, full_shade}
 use Rattle.combiner.specs.declared.Color.{Color}

@@ -9,51 +9,51 @@ use borrow.Author.Rules.{rules}
 use Rattle.rasterize.proofs.draw_rectangle.Statement.{statement}
 use Rattle.rasterize.proofs.draw_rectangle.Tie as tie
 
-outline-requires : tie.Need-outline-requires
-outline-requires c κs = search rules
+outline-t-requires : tie.Need-outline-t-requires
+outline-t-requires c κs = search rules
 
-scissor-area-requires : tie.Need-scissor-area-requires
-scissor-area-requires c κs = search rules
+scissor_area-area-requires : tie.Need-scissor_area-area-requires
+scissor_area-area-requires c κs = search rules
 
-rows-requires : tie.Need-rows-requires
-rows-requires c κs = (bounded _ _ _ c.scissor-area.ensures).down
+rows-rows-requires : tie.Need-rows-rows-requires
+rows-rows-requires c κs = (bounded _ _ _ c.scissor_area-area.ensures).down
 
-draw-rows-requires : tie.Need-draw-rows-requires
-draw-rows-requires c κs =
+draw_rows-requires : tie.Need-draw_rows-requires
+draw_rows-requires c κs =
     let s = c.before.before.before.before.before.before.before.before.before.before.before in
-    let b = bounded _ _ _ c.before.before.before.before.before.before.scissor-area.ensures in
-    ((b.across, b.right_in), ((s.requires.0.0, c.before.before.before.before.before.before.before.outline.ensures.tame), room_less s.requires.1 (omega (arith, c.before.before.before.before.before.rows.ensures.to, b.bottom_in))))
+    let b = bounded _ _ _ c.scissor_area-area.ensures in
+    ((b.across, b.right_in), ((s.requires.0.0, c.outline-t.ensures.tame), room_less s.requires.1 (omega (arith, c.rows-rows.ensures.to, b.bottom_in))))
 
-same_length : tie.Need-same-length
-same_length c = search rules
+shape_of-colors-then-rows : tie.Need-shape_of-colors-then-rows
+shape_of-colors-then-rows c = search rules
 
-same-length-2 : tie.Need-same-length-2
-same-length-2 c = search rules
+shape_of-coverages-then-rows : tie.Need-shape_of-coverages-then-rows
+shape_of-coverages-then-rows c = search rules
 
-same-length-3 : tie.Need-same-length-3
-same-length-3 c = search rules
+shape_of-marks-then-rows : tie.Need-shape_of-marks-then-rows
+shape_of-marks-then-rows c = search rules
+
+returns-then-rows : tie.Need-returns-then-rows
+returns-then-rows c =
+    let s = c.before.before.before.before.before.before.before.before.before.before.before.before.before.before.before.before.before.before in
+    rectangle-drawn _ s.requires.0.0 _ s.requires.1.wide s.requires.1.high _ c.outline-t.ensures c.scissor_area-area.ensures c.rows-rows.ensures c.draw_rows.ensures
 
 returns : tie.Need-returns
 returns c =
-    let s = c.before.before.before.before.before.before.before.before.before.before.before.before.before.before.before.before.before.before in
-    rectangle-drawn _ s.requires.0.0 _ s.requires.1.wide s.requires.1.high _ c.before.before.before.before.before.before.before.before.before.before.before.before.before.before.outline.ensures c.before.before.before.before.before.before.before.before.before.before.before.before.before.scissor-area.ensures c.before.before.before.before.before.before.before.before.before.before.before.before.rows.ensures c.before.before.before.before.before.before.draw-rows.ensures
-
-returns-2 : tie.Need-returns-2
-returns-2 c =
     let s = c.before.before.before.before.before.before.before.before in
-    rectangle-drawn _ s.requires.0.0 _ s.requires.1.wide s.requires.1.high _ c.before.before.before.before.outline.ensures c.before.before.before.scissor-area.ensures c.before.before.rows.ensures
-    (drew_nothing (from_none _ _ _ c.if1.false) s.requires.1.fit)
+    rectangle-drawn _ s.requires.0.0 _ s.requires.1.wide s.requires.1.high _ c.outline-t.ensures c.scissor_area-area.ensures c.rows-rows.ensures
+    (drew_nothing (from_none _ _ _ c.if-rows.false) s.requires.1.fit)
 
-pub draw-rectangle-spec : {M : Type 1} → statement M
-draw-rectangle-spec =
+pub draw_rectangle_spec : {M : Type 1} → statement M
+draw_rectangle_spec =
     tie.close
     (tie.spec
-    outline-requires
-    scissor-area-requires
-    rows-requires
-    draw-rows-requires
-    same_length
-    same-length-2
-    same-length-3
-    returns
-    returns-2)
+    outline-t-requires
+    scissor_area-area-requires
+    rows-rows-requires
+    draw_rows-requires
+    shape_of-colors-then-rows
+    shape_of-coverages-then-rows
+    shape_of-marks-then-rows
+    returns-then-rows
+    returns)

@@ -26,86 +26,86 @@ module _ (mode : RenderMode) (k : Combiner) (cull : Bool) (s : Scissor) (w h : �
   covers : {x : Geometry} → geometry ≡ x → Drew mode k m (geometry_emits mode k cull s w h vs ps is x) f g n → Drew mode k m (geometry_emits mode k cull s w h vs ps is geometry) f g n
   covers e = drew-as (ap (geometry_emits mode k cull s w h vs ps is) (sym e))
 
-prepare-requires : tie.Need-prepare-requires
-prepare-requires c κs = c.before.before.before.before.before.before.requires.0.1
+prepare-paint-requires : tie.Need-prepare-paint-requires
+prepare-paint-requires c κs = c.requires.0.1
 
-enum_told : tie.Need-enum-told
-enum_told c = search rules
+enum_told-1 : tie.Need-enum_told-1
+enum_told-1 c = search rules
 
-enum-known-geometry : tie.Need-enum-known-geometry
-enum-known-geometry c = search rules
+enum_known-geometry : tie.Need-enum_known-geometry
+enum_known-geometry c = search rules
 
-draw-rectangle-requires : tie.Need-draw-rectangle-requires
-draw-rectangle-requires c κs = let s = c.before.before.before.before.before.before.before.before.before.before.before.before.before in ((c.before.before.before.before.before.before.prepare.ensures.1.1, s.requires.1.1.0), s.requires.1.1.1)
+draw_rectangle-requires : tie.Need-draw_rectangle-requires
+draw_rectangle-requires c κs = let s = c.before.before.before.before.before.before.before.before.before.before.before in ((c.prepare-paint.ensures.1.1, s.requires.1.1.0), s.requires.1.1.1)
 
-enum-told-2 : tie.Need-enum-told-2
-enum-told-2 c = search rules
+enum_told-in-Triangles : tie.Need-enum_told-in-Triangles
+enum_told-in-Triangles c = search rules
 
-draw-triangles-requires : tie.Need-draw-triangles-requires
-draw-triangles-requires c κs =
-    let s = c.before.before.before.before.before.before.before.before.before.before.before.before in
+draw_triangles-requires : tie.Need-draw_triangles-requires
+draw_triangles-requires c κs =
+    let s = c.before.before.before.before.before.before.before.before.before.before.before in
     let a = s.args in
-    let e = c.before.before.before.before.before.prepare.ensures in
+    let e = c.prepare-paint.ensures in
     let k = sym e.1.0 in (
       (record { prepared = e.1.1; mixes = subst Mixed k s.requires.0.1 }, s.requires.0.0),
       (
         subst (λ (k : Combiner). admitted_of k Triangles a.vertices.now a.present.now a.indices.now ≡ true) k
-            (subst (λ (g : Geometry). admitted_of a.combiner g a.vertices.now a.present.now a.indices.now ≡ true) c.before.before.before.enum-told2.given.1 s.requires.1.0),
+            (subst (λ (g : Geometry). admitted_of a.combiner g a.vertices.now a.present.now a.indices.now ≡ true) c.in-Triangles.is s.requires.1.0),
         s.requires.1.1,
       ),
     )
 
-returns : tie.Need-returns
-returns c = covers _ _ _ _ _ _ _ _ _ _ c.enum_told.given.1 (drew_nothing refl c.before.before.before.before.before.before.before.before.before.requires.1.1.1.fit)
+returns-in-Nothing : tie.Need-returns-in-Nothing
+returns-in-Nothing c = covers _ _ _ _ _ _ _ _ _ _ c.in-Nothing.is (drew_nothing refl c.requires.1.1.1.fit)
 
-same_length : tie.Need-same-length
-same_length c = search rules
+shape_of-colors-in-Rectangle : tie.Need-shape_of-colors-in-Rectangle
+shape_of-colors-in-Rectangle c = search rules
 
-same-length-2 : tie.Need-same-length-2
-same-length-2 c = search rules
+shape_of-coverages-in-Rectangle : tie.Need-shape_of-coverages-in-Rectangle
+shape_of-coverages-in-Rectangle c = search rules
 
-same-length-3 : tie.Need-same-length-3
-same-length-3 c = search rules
+shape_of-marks-in-Rectangle : tie.Need-shape_of-marks-in-Rectangle
+shape_of-marks-in-Rectangle c = search rules
 
-returns-2 : tie.Need-returns-2
-returns-2 c =
-    let a = c.before.before.before.before.before.before.before.before.before.before.before.before.before.before.before.before.before.before.before.before.args in
-    let e = c.before.before.before.before.before.before.before.before.before.before.before.before.before.prepare.ensures in
+returns-in-Rectangle : tie.Need-returns-in-Rectangle
+returns-in-Rectangle c =
+    let a = c.args in
+    let e = c.prepare-paint.ensures in
     by-paint e.0 e.1.0 (λ (q : RenderMode) (k : Combiner). geometry_emits q k a.cull a.scissor a.width a.height a.vertices.now a.present.now a.indices.now a.geometry)
-    (covers _ _ _ _ _ _ _ _ _ _ c.before.before.before.before.before.before.before.before.before.before.before.geometry.given.1 c.before.before.before.before.before.before.draw-rectangle.ensures)
+    (covers _ _ _ _ _ _ _ _ _ _ c.in-Rectangle.is c.draw_rectangle.ensures)
 
-same-length-4 : tie.Need-same-length-4
-same-length-4 c = search rules
+shape_of-colors-in-Triangles : tie.Need-shape_of-colors-in-Triangles
+shape_of-colors-in-Triangles c = search rules
 
-same-length-5 : tie.Need-same-length-5
-same-length-5 c = search rules
+shape_of-coverages-in-Triangles : tie.Need-shape_of-coverages-in-Triangles
+shape_of-coverages-in-Triangles c = search rules
 
-same-length-6 : tie.Need-same-length-6
-same-length-6 c = search rules
+shape_of-marks-in-Triangles : tie.Need-shape_of-marks-in-Triangles
+shape_of-marks-in-Triangles c = search rules
 
-returns-3 : tie.Need-returns-3
-returns-3 c =
-    let a = c.before.before.before.before.before.before.before.before.before.before.before.before.before.before.before.before.before.before.before.args in
-    let e = c.before.before.before.before.before.before.before.before.before.before.before.before.prepare.ensures in
+returns-in-Triangles : tie.Need-returns-in-Triangles
+returns-in-Triangles c =
+    let a = c.args in
+    let e = c.prepare-paint.ensures in
     by-paint e.0 e.1.0 (λ (q : RenderMode) (k : Combiner). geometry_emits q k a.cull a.scissor a.width a.height a.vertices.now a.present.now a.indices.now a.geometry)
-    (covers _ _ _ _ _ _ _ _ _ _ c.before.before.before.before.before.before.before.before.before.before.enum-told2.given.1 c.before.before.before.before.before.before.draw-triangles.ensures)
+    (covers _ _ _ _ _ _ _ _ _ _ c.in-Triangles.is c.draw_triangles.ensures)
 
-pub rasterize-spec : {M : Type 1} → statement M
-rasterize-spec =
+pub rasterize_spec : {M : Type 1} → statement M
+rasterize_spec =
     tie.close
     (tie.spec
-    prepare-requires
-    enum_told
-    enum-known-geometry
-    draw-rectangle-requires
-    enum-told-2
-    draw-triangles-requires
-    returns
-    same_length
-    same-length-2
-    same-length-3
-    returns-2
-    same-length-4
-    same-length-5
-    same-length-6
-    returns-3)
+    prepare-paint-requires
+    enum_told-1
+    enum_known-geometry
+    draw_rectangle-requires
+    enum_told-in-Triangles
+    draw_triangles-requires
+    returns-in-Nothing
+    shape_of-colors-in-Rectangle
+    shape_of-coverages-in-Rectangle
+    shape_of-marks-in-Rectangle
+    returns-in-Rectangle
+    shape_of-colors-in-Triangles
+    shape_of-coverages-in-Triangles
+    shape_of-marks-in-Triangles
+    returns-in-Triangles)

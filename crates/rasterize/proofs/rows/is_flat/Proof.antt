@@ -5,17 +5,17 @@ use borrow.Author.Rules.{rules}
 use Rattle.rasterize.proofs.rows.is_flat.Statement.{statement}
 use Rattle.rasterize.proofs.rows.is_flat.Tie as tie
 
-enum_told : tie.Need-enum-told
-enum_told c = search rules
+enum_told-1 : tie.Need-enum_told-1
+enum_told-1 c = search rules
 
-enum-known-shading : tie.Need-enum-known-shading
-enum-known-shading c = search rules
+enum_known-shading : tie.Need-enum_known-shading
+enum_known-shading c = search rules
 
-returns : tie.Need-returns
-returns c = search rules
+returns-in-Flat : tie.Need-returns-in-Flat
+returns-in-Flat c = search rules
 
-returns-2 : tie.Need-returns-2
-returns-2 c = ap is_flat (sym c.before.shading.given.1)
+returns-in-Smooth : tie.Need-returns-in-Smooth
+returns-in-Smooth c = ap is_flat (sym c.in-Smooth.is)
 
-pub is-flat-spec : {M : Type 1} → statement M
-is-flat-spec = tie.close (tie.spec enum_told enum-known-shading returns returns-2)
+pub is_flat_spec : {M : Type 1} → statement M
+is_flat_spec = tie.close (tie.spec enum_told-1 enum_known-shading returns-in-Flat returns-in-Smooth)

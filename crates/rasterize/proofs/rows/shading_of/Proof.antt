@@ -7,23 +7,23 @@ use borrow.Author.Rules.{rules}
 use Rattle.rasterize.proofs.rows.shading_of.Statement.{statement}
 use Rattle.rasterize.proofs.rows.shading_of.Tie as tie
 
+returns-then-flat : tie.Need-returns-then-flat
+returns-then-flat c = search rules
+
+bounds-v-0 : tie.Need-bounds-v-0
+bounds-v-0 c = search rules
+
+bounds-v-1 : tie.Need-bounds-v-1
+bounds-v-1 c = search rules
+
+bounds-v-2 : tie.Need-bounds-v-2
+bounds-v-2 c = search rules
+
 returns : tie.Need-returns
-returns c = search rules
+returns c =
+    let a = c.args in
+    λ i. cond (sym c.if-flat.false i) Flat (Smooth (vertex_at a.v 0) (vertex_at a.v 1) (vertex_at a.v 2))
 
-array-copy-out-a : tie.Need-array-copy-out-a
-array-copy-out-a c = search rules
-
-array-copy-out-b : tie.Need-array-copy-out-b
-array-copy-out-b c = search rules
-
-array-copy-out-c : tie.Need-array-copy-out-c
-array-copy-out-c c = search rules
-
-returns-2 : tie.Need-returns-2
-returns-2 c =
-    let a = c.before.before.before.before.args in
-    λ i. cond (sym c.before.before.before.if1.false i) Flat (Smooth (vertex_at a.t2 0) (vertex_at a.t2 1) (vertex_at a.t2 2))
-
-pub shading-of-spec : {M : Type 1} → statement M
-shading-of-spec =
-    tie.close (tie.spec returns array-copy-out-a array-copy-out-b array-copy-out-c returns-2)
+pub shading_of_spec : {M : Type 1} → statement M
+shading_of_spec =
+    tie.close (tie.spec returns-then-flat bounds-v-0 bounds-v-1 bounds-v-2 returns)

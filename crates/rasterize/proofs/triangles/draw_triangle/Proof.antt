@@ -17,86 +17,86 @@ use Rattle.rasterize.proofs.triangles.draw_triangle.Tie as tie
 culled-requires : tie.Need-culled-requires
 culled-requires c κs = search rules
 
-returns : tie.Need-returns
-returns c = culled_none _ _ _ _ _ _ _ _ _ (sym c.before.culled.ensures ∙ c.if1.true) c.before.before.before.before.before.requires.1.1.fit
+returns-then-culled : tie.Need-returns-then-culled
+returns-then-culled c = culled_none _ _ _ _ _ _ _ _ _ (sym c.culled.ensures ∙ c.if-culled.true) c.requires.1.1.fit
 
-sort-requires : tie.Need-sort-requires
-sort-requires c κs = search rules
+sort-v-requires : tie.Need-sort-v-requires
+sort-v-requires c κs = search rules
 
-corners-requires : tie.Need-corners-requires
-corners-requires c κs = search rules
+corners-corners-requires : tie.Need-corners-corners-requires
+corners-corners-requires c κs = search rules
 
-quarter-area-requires : tie.Need-quarter-area-requires
-quarter-area-requires c κs = near _ _ _ c.before.sort.ensures c.corners.ensures c.before.before.before.before.before.before.before.requires.0.1
+quarter_area-requires : tie.Need-quarter_area-requires
+quarter_area-requires c κs = near _ _ _ c.sort-v.ensures c.corners-corners.ensures c.requires.0.1
 
-returns-2 : tie.Need-returns-2
-returns-2 c =
-    area_none _ _ _ _ _ _ _ _ _ c.before.before.before.sort.ensures c.before.before.corners.ensures c.before.quarter-area.ensures (sym c.before.before.before.before.before.culled.ensures ∙ c.before.before.before.before.if1.false)
-    (sym (to_z-of_z w64 c.before.quarter-area.result (record { sfits = c.before.quarter-area.type-inv })) ∙ ap (to_z w64) c.if2.true) c.before.before.before.before.before.before.before.before.before.requires.1.1.fit
+returns-then-quarter_area-eq0 : tie.Need-returns-then-quarter_area-eq0
+returns-then-quarter_area-eq0 c =
+    area_none _ _ _ _ _ _ _ _ _ c.sort-v.ensures c.corners-corners.ensures c.quarter_area.ensures (sym c.culled.ensures ∙ c.if-culled.false)
+    (sym (to_z-of_z w64 c.quarter_area.result (record { sfits = c.quarter_area.type_inv })) ∙ ap (to_z w64) c.if-quarter_area-eq0.true) c.requires.1.1.fit
 
-setup-requires : tie.Need-setup-requires
-setup-requires c κs = near _ _ _ c.before.before.before.sort.ensures c.before.before.corners.ensures c.before.before.before.before.before.before.before.before.before.requires.0.1
+setup-t-requires : tie.Need-setup-t-requires
+setup-t-requires c κs = near _ _ _ c.sort-v.ensures c.corners-corners.ensures c.requires.0.1
 
-scissor-area-requires : tie.Need-scissor-area-requires
-scissor-area-requires c κs = search rules
+scissor_area-area-requires : tie.Need-scissor_area-area-requires
+scissor_area-area-requires c κs = search rules
 
-rows-requires : tie.Need-rows-requires
-rows-requires c κs = (bounded _ _ _ c.scissor-area.ensures).down
+rows-rows-requires : tie.Need-rows-rows-requires
+rows-rows-requires c κs = (bounded _ _ _ c.scissor_area-area.ensures).down
 
-shading-of-requires : tie.Need-shading-of-requires
-shading-of-requires c κs = search rules
+shading_of-shading-requires : tie.Need-shading_of-shading-requires
+shading_of-shading-requires c κs = search rules
 
-draw-rows-requires : tie.Need-draw-rows-requires
-draw-rows-requires c κs =
+draw_rows-requires : tie.Need-draw_rows-requires
+draw_rows-requires c κs =
     let s = c.before.before.before.before.before.before.before.before.before.before.before.before.before.before.before.before.before.before in
-    let b = bounded _ _ _ c.before.before.before.before.before.before.before.scissor-area.ensures in (
+    let b = bounded _ _ _ c.scissor_area-area.ensures in (
       (b.across, b.right_in),
       (
-        (s.requires.0.0.prepared, tame_as _ _ _ c.before.before.before.before.before.before.before.before.before.before.before.before.sort.ensures c.before.before.before.before.before.before.before.before.before.before.before.corners.ensures c.before.before.before.before.before.before.before.before.setup.ensures s.requires.0.1),
-        room_less s.requires.1.1 (omega (arith, c.before.before.before.before.before.before.rows.ensures.to, b.bottom_in)),
+        (s.requires.0.0.prepared, tame_as _ _ _ c.sort-v.ensures c.corners-corners.ensures c.setup-t.ensures s.requires.0.1),
+        room_less s.requires.1.1 (omega (arith, c.rows-rows.ensures.to, b.bottom_in)),
       ),
     )
 
-same_length : tie.Need-same-length
-same_length c = search rules
+shape_of-colors-then-rows : tie.Need-shape_of-colors-then-rows
+shape_of-colors-then-rows c = search rules
 
-same-length-2 : tie.Need-same-length-2
-same-length-2 c = search rules
+shape_of-coverages-then-rows : tie.Need-shape_of-coverages-then-rows
+shape_of-coverages-then-rows c = search rules
 
-same-length-3 : tie.Need-same-length-3
-same-length-3 c = search rules
+shape_of-marks-then-rows : tie.Need-shape_of-marks-then-rows
+shape_of-marks-then-rows c = search rules
 
-returns-3 : tie.Need-returns-3
-returns-3 c =
+returns-then-rows : tie.Need-returns-then-rows
+returns-then-rows c =
     let s = c.before.before.before.before.before.before.before.before.before.before.before.before.before.before.before.before.before.before.before.before.before.before.before.before.before in
-    triangle-drawn _ s.requires.0.0 _ _ s.requires.1.1.wide s.requires.1.1.high _ _ _ c.before.before.before.before.before.before.before.before.before.before.before.before.before.before.before.before.before.before.before.sort.ensures c.before.before.before.before.before.before.before.before.before.before.before.before.before.before.before.before.before.before.corners.ensures c.before.before.before.before.before.before.before.before.before.before.before.before.before.before.before.before.before.quarter-area.ensures
-    (sym c.before.before.before.before.before.before.before.before.before.before.before.before.before.before.before.before.before.before.before.before.before.culled.ensures ∙ c.before.before.before.before.before.before.before.before.before.before.before.before.before.before.before.before.before.before.before.before.if1.false) (λ z. c.before.before.before.before.before.before.before.before.before.before.before.before.before.before.before.before.if2.false (ap (of_z w64) z)) c.before.before.before.before.before.before.before.before.before.before.before.before.before.before.before.setup.ensures c.before.before.before.before.before.before.before.before.before.before.before.before.before.before.scissor-area.ensures c.before.before.before.before.before.before.before.before.before.before.before.before.before.rows.ensures c.before.before.before.before.before.before.before.before.before.before.shading-of.ensures
-    c.before.before.before.before.before.before.draw-rows.ensures
+    triangle-drawn _ s.requires.0.0 _ _ s.requires.1.1.wide s.requires.1.1.high _ _ _ c.sort-v.ensures c.corners-corners.ensures c.quarter_area.ensures
+    (sym c.culled.ensures ∙ c.if-culled.false) (λ z. c.if-quarter_area-eq0.false (ap (of_z w64) z)) c.setup-t.ensures c.scissor_area-area.ensures c.rows-rows.ensures c.shading_of-shading.ensures
+    c.draw_rows.ensures
 
-returns-4 : tie.Need-returns-4
-returns-4 c =
+returns : tie.Need-returns
+returns c =
     let s = c.before.before.before.before.before.before.before.before.before.before.before.before.before.before in
-    triangle-drawn _ s.requires.0.0 _ _ s.requires.1.1.wide s.requires.1.1.high _ _ _ c.before.before.before.before.before.before.before.before.sort.ensures c.before.before.before.before.before.before.before.corners.ensures c.before.before.before.before.before.before.quarter-area.ensures
-    (sym c.before.before.before.before.before.before.before.before.before.before.culled.ensures ∙ c.before.before.before.before.before.before.before.before.before.if1.false) (λ z. c.before.before.before.before.before.if2.false (ap (of_z w64) z)) c.before.before.before.before.setup.ensures c.before.before.before.scissor-area.ensures c.before.before.rows.ensures refl
-    (drew_nothing (from_none _ _ _ c.if3.false) s.requires.1.1.fit)
+    triangle-drawn _ s.requires.0.0 _ _ s.requires.1.1.wide s.requires.1.1.high _ _ _ c.sort-v.ensures c.corners-corners.ensures c.quarter_area.ensures
+    (sym c.culled.ensures ∙ c.if-culled.false) (λ z. c.if-quarter_area-eq0.false (ap (of_z w64) z)) c.setup-t.ensures c.scissor_area-area.ensures c.rows-rows.ensures refl
+    (drew_nothing (from_none _ _ _ c.if-rows.false) s.requires.1.1.fit)
 
-pub draw-triangle-spec : {M : Type 1} → statement M
-draw-triangle-spec =
+pub draw_triangle_spec : {M : Type 1} → statement M
+draw_triangle_spec =
     tie.close
     (tie.spec
     culled-requires
-    returns
-    sort-requires
-    corners-requires
-    quarter-area-requires
-    returns-2
-    setup-requires
-    scissor-area-requires
-    rows-requires
-    shading-of-requires
-    draw-rows-requires
-    same_length
-    same-length-2
-    same-length-3
-    returns-3
-    returns-4)
+    returns-then-culled
+    sort-v-requires
+    corners-corners-requires
+    quarter_area-requires
+    returns-then-quarter_area-eq0
+    setup-t-requires
+    scissor_area-area-requires
+    rows-rows-requires
+    shading_of-shading-requires
+    draw_rows-requires
+    shape_of-colors-then-rows
+    shape_of-coverages-then-rows
+    shape_of-marks-then-rows
+    returns-then-rows
+    returns)
