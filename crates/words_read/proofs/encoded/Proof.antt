@@ -7,22 +7,22 @@ use borrow.Author.Rules.{rules}
 use Rattle.words_read.proofs.encoded.Statement.{statement}
 use Rattle.words_read.proofs.encoded.Tie as tie
 
-color-requires : tie.Need-color-requires
-color-requires c κs = search rules
+color-color-requires : tie.Need-color-color-requires
+color-color-requires c κs = search rules
 
-known-coverage-requires : tie.Need-known-coverage-requires
-known-coverage-requires c κs = search rules
+known_coverage-coverage-requires : tie.Need-known_coverage-coverage-requires
+known_coverage-coverage-requires c κs = search rules
 
 encode-requires : tie.Need-encode-requires
 encode-requires c κs =
     let s = c.before.before.before.before.before in
     let a = s.args in
-    (s.requires.0.0, s.requires.0.1, omega (arith, s.requires.1.1.sound, known_or_zero (get_or a.marks.now a.pixel 0) (get_or a.coverages.now a.pixel 0) c.known-coverage.ensures))
+    (s.requires.0.0, s.requires.0.1, omega (arith, s.requires.1.1.sound, known_or_zero (get_or a.marks.now a.pixel 0) (get_or a.coverages.now a.pixel 0) c.known_coverage-coverage.ensures))
 
 returns : tie.Need-returns
 returns c =
-    let a = c.before.before.before.before.before.before.args in
-    encoded-with _ _ _ _ c.encode.ensures c.before.before.color.ensures (known_or_zero (get_or a.marks.now a.pixel 0) (get_or a.coverages.now a.pixel 0) c.before.known-coverage.ensures)
+    let a = c.args in
+    encoded-with _ _ _ _ c.encode.ensures c.color-color.ensures (known_or_zero (get_or a.marks.now a.pixel 0) (get_or a.coverages.now a.pixel 0) c.known_coverage-coverage.ensures)
 
-pub encoded-spec : {M : Type 1} → statement M
-encoded-spec = tie.close (tie.spec color-requires known-coverage-requires encode-requires returns)
+pub encoded_spec : {M : Type 1} → statement M
+encoded_spec = tie.close (tie.spec color-color-requires known_coverage-coverage-requires encode-requires returns)

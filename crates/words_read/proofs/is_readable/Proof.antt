@@ -5,21 +5,21 @@ use borrow.Author.Rules.{rules}
 use Rattle.words_read.proofs.is_readable.Statement.{statement}
 use Rattle.words_read.proofs.is_readable.Tie as tie
 
-color-marked-requires : tie.Need-color-marked-requires
-color-marked-requires c κs = search rules
+color_marked-requires : tie.Need-color_marked-requires
+color_marked-requires c κs = search rules
+
+returns-then-not-color_marked : tie.Need-returns-then-not-color_marked
+returns-then-not-color_marked c = stops _ (was_false c.color_marked.ensures c.if-not-color_marked.true-raw)
+
+coverage_marked-requires : tie.Need-coverage_marked-requires
+coverage_marked-requires c κs = search rules
+
+returns-then-coverage_marked : tie.Need-returns-then-coverage_marked
+returns-then-coverage_marked c = goes_on (was_true c.color_marked.ensures c.if-not-color_marked.false-raw) (enough _ (sym c.coverage_marked.ensures ∙ c.if-coverage_marked.true))
 
 returns : tie.Need-returns
-returns c = stops _ (was_false c.before.color-marked.ensures c.if1.true)
+returns c = goes_on (was_true c.color_marked.ensures c.if-not-color_marked.false-raw) (or_else _ (sym c.coverage_marked.ensures ∙ c.if-coverage_marked.false))
 
-coverage-marked-requires : tie.Need-coverage-marked-requires
-coverage-marked-requires c κs = search rules
-
-returns-2 : tie.Need-returns-2
-returns-2 c = goes_on (was_true c.before.before.before.color-marked.ensures c.before.before.if1.false) (enough _ (sym c.before.coverage-marked.ensures ∙ c.if2.true))
-
-returns-3 : tie.Need-returns-3
-returns-3 c = goes_on (was_true c.before.before.before.color-marked.ensures c.before.before.if1.false) (or_else _ (sym c.before.coverage-marked.ensures ∙ c.if2.false))
-
-pub is-readable-spec : {M : Type 1} → statement M
-is-readable-spec =
-    tie.close (tie.spec color-marked-requires returns coverage-marked-requires returns-2 returns-3)
+pub is_readable_spec : {M : Type 1} → statement M
+is_readable_spec =
+    tie.close (tie.spec color_marked-requires returns-then-not-color_marked coverage_marked-requires returns-then-coverage_marked returns)

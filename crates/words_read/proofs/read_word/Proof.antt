@@ -9,72 +9,72 @@ use borrow.Author.Rules.{rules}
 use Rattle.words_read.proofs.read_word.Statement.{statement}
 use Rattle.words_read.proofs.read_word.Tie as tie
 
-frame-refusal-requires : tie.Need-frame-refusal-requires
-frame-refusal-requires c κs = search rules
+frame_refusal-refusal-requires : tie.Need-frame_refusal-refusal-requires
+frame_refusal-refusal-requires c κs = search rules
 
-returns : tie.Need-returns
-returns c = (read_refused _ _ _ _ c.before.frame-refusal.ensures c.if1.true, above_zero _ c.if1.true)
+returns-then-refusal-ne0 : tie.Need-returns-then-refusal-ne0
+returns-then-refusal-ne0 c = (read_refused _ _ _ _ c.frame_refusal-refusal.ensures c.if-refusal-ne0.true, above_zero _ c.if-refusal-ne0.true)
 
-returns-2 : tie.Need-returns-2
-returns-2 c = (eighth _ _ _ _ c.before.before.frame-refusal.ensures c.before.if1.false c.if2.true, lit≤ tt)
+returns-then-marks-pixel : tie.Need-returns-then-marks-pixel
+returns-then-marks-pixel c = (eighth _ _ _ _ c.frame_refusal-refusal.ensures c.if-refusal-ne0.false c.if-marks-pixel.true, lit≤ tt)
 
-writer-requires : tie.Need-writer-requires
-writer-requires c κs = search rules
+writer-writer-requires : tie.Need-writer-writer-requires
+writer-writer-requires c κs = search rules
 
 supported-requires : tie.Need-supported-requires
 supported-requires c κs = search rules
 
-returns-3 : tie.Need-returns-3
-returns-3 c = (
-  ninth _ _ _ _ c.before.before.before.before.before.frame-refusal.ensures c.before.before.before.before.if1.false c.before.before.before.if2.false
-      (was_false (c.before.supported.ensures ∙ ap supported_of c.before.before.writer.ensures) c.if3.true),
+returns-then-not-supported : tie.Need-returns-then-not-supported
+returns-then-not-supported c = (
+  ninth _ _ _ _ c.frame_refusal-refusal.ensures c.if-refusal-ne0.false c.if-marks-pixel.false
+      (was_false (c.supported.ensures ∙ ap supported_of c.writer-writer.ensures) c.if-not-supported.true-raw),
   lit≤ tt,
 )
 
-shared-slice-read-mark : tie.Need-shared-slice-read-mark
-shared-slice-read-mark c = search rules
+bounds-marks-pixel : tie.Need-bounds-marks-pixel
+bounds-marks-pixel c = search rules
 
-is-readable-requires : tie.Need-is-readable-requires
-is-readable-requires c κs = search rules
+is_readable-requires : tie.Need-is_readable-requires
+is_readable-requires c κs = search rules
 
-returns-4 : tie.Need-returns-4
-returns-4 c = (
-  tenth _ _ _ _ c.before.before.before.before.before.before.before.before.frame-refusal.ensures c.before.before.before.before.before.before.before.if1.false c.before.before.before.before.before.before.if2.false
-      (was_true (c.before.before.before.before.supported.ensures ∙ ap supported_of c.before.before.before.before.before.writer.ensures) c.before.before.before.if3.false)
-      (was_false c.before.is-readable.ensures c.if4.true),
+returns-then-not-is_readable : tie.Need-returns-then-not-is_readable
+returns-then-not-is_readable c = (
+  tenth _ _ _ _ c.frame_refusal-refusal.ensures c.if-refusal-ne0.false c.if-marks-pixel.false
+      (was_true (c.supported.ensures ∙ ap supported_of c.writer-writer.ensures) c.if-not-supported.false-raw)
+      (was_false c.is_readable.ensures c.if-not-is_readable.true-raw),
   lit≤ tt,
 )
 
-encoded-requires : tie.Need-encoded-requires
-encoded-requires c κs =
-    let a = c.before.before.before.before.before.before.before.before.before.before.before.before.args in
-    encodable (read_args a.pixel a.fmt a.siz a.rgb-dither a.encoding) _ _ _ c.before.before.before.before.before.before.before.before.frame-refusal.ensures c.before.before.before.before.before.before.before.if1.false c.before.before.before.before.before.before.if2.false
-    (was_true (c.before.before.before.before.supported.ensures ∙ ap supported_of c.before.before.before.before.before.writer.ensures) c.before.before.before.if3.false)
-    (was_true c.before.is-readable.ensures c.if4.false)
-    c.before.before.before.before.before.writer.ensures
+encoded-word-requires : tie.Need-encoded-word-requires
+encoded-word-requires c κs =
+    let a = c.args in
+    encodable (read_args a.pixel a.fmt a.siz a.rgb_dither a.encoding) _ _ _ c.frame_refusal-refusal.ensures c.if-refusal-ne0.false c.if-marks-pixel.false
+    (was_true (c.supported.ensures ∙ ap supported_of c.writer-writer.ensures) c.if-not-supported.false-raw)
+    (was_true c.is_readable.ensures c.if-not-is_readable.false-raw)
+    c.writer-writer.ensures
 
-returns-5 : tie.Need-returns-5
-returns-5 c = (
-  read _ _ _ _ c.before.before.before.before.before.before.before.before.before.frame-refusal.ensures c.before.before.before.before.before.before.before.before.if1.false c.before.before.before.before.before.before.before.if2.false
-      (was_true (c.before.before.before.before.before.supported.ensures ∙ ap supported_of c.before.before.before.before.before.before.writer.ensures) c.before.before.before.before.if3.false)
-      (was_true c.before.before.is-readable.ensures c.before.if4.false)
-      c.before.before.before.before.before.before.writer.ensures
-      c.encoded.ensures,
+returns : tie.Need-returns
+returns c = (
+  read _ _ _ _ c.frame_refusal-refusal.ensures c.if-refusal-ne0.false c.if-marks-pixel.false
+      (was_true (c.supported.ensures ∙ ap supported_of c.writer-writer.ensures) c.if-not-supported.false-raw)
+      (was_true c.is_readable.ensures c.if-not-is_readable.false-raw)
+      c.writer-writer.ensures
+      c.encoded-word.ensures,
   tt,
 )
 
-pub read-word-spec : {M : Type 1} → statement M
-read-word-spec =
+pub read_word_spec : {M : Type 1} → statement M
+read_word_spec =
     tie.close
     (tie.spec
-    frame-refusal-requires
-    returns
-    returns-2
-    writer-requires
+    frame_refusal-refusal-requires
+    returns-then-refusal-ne0
+    returns-then-marks-pixel
+    writer-writer-requires
     supported-requires
-    returns-3
-    shared-slice-read-mark
-    is-readable-requires
-    returns-4
-    encoded-requires
-    returns-5)
+    returns-then-not-supported
+    bounds-marks-pixel
+    is_readable-requires
+    returns-then-not-is_readable
+    encoded-word-requires
+    returns)
