@@ -15,18 +15,18 @@ of_nan nan h = refl
 of_nan (inf s) h = absurd (true≢false (sym h))
 of_nan (fin s m e) h = absurd (true≢false (sym h))
 
-returns : tie.Need-returns
+returns-then-magnitude-gt2139095040 : tie.Need-returns-then-magnitude-gt2139095040
 unfolding div of_bits
-returns c =
-    let n = c.before.args.bits in
-    of_nan (of_bits binary32 n) (sym (nan_bits_is binary32 n) ∙ nan_bits_above binary32 n ∙ lt-ltb _ _ c.if1.true)
+returns-then-magnitude-gt2139095040 c =
+    let n = c.args.bits in
+    of_nan (of_bits binary32 n) (sym (nan_bits_is binary32 n) ∙ nan_bits_above binary32 n ∙ lt-ltb _ _ c.if-magnitude-gt2139095040.true)
 
-float-from-bits-result : tie.Need-float-from-bits-result
-float-from-bits-result c =
-    subst (λ (b : Bool). T (not b)) (sym (nan_bits_above binary32 c.before.args.bits ∙ le-ltb _ _ c.if1.false)) tt
+float_from_bits-result : tie.Need-float_from_bits-result
+float_from_bits-result c =
+    subst (λ (b : Bool). T (not b)) (sym (nan_bits_above binary32 c.args.bits ∙ le-ltb _ _ c.if-magnitude-gt2139095040.false)) tt
 
-returns-2 : tie.Need-returns-2
-returns-2 c = search rules
+returns : tie.Need-returns
+returns c = search rules
 
-pub float-spec : {M : Type 1} → statement M
-float-spec = tie.close (tie.spec returns float-from-bits-result returns-2)
+pub float_spec : {M : Type 1} → statement M
+float_spec = tie.close (tie.spec returns-then-magnitude-gt2139095040 float_from_bits-result returns)
