@@ -15,7 +15,10 @@ mod table;
 
 ghost use Rattle.std.specs.Prelude.{◌≡◌, ◌<◌, length};
 
+use replay_values::input::read_full;
 use replay_values::line::line_end;
+use std::io;
+use std::io::Write;
 use table::CALLS;
 
 // A number for each call, and one for the lines that name none.
@@ -56,36 +59,47 @@ fn judge(s: &[u8]) -> Verdict
     }
 }
 
-fn print_line(s: &[u8], number: usize) {
-    io::write_all(1, b"line ");
-    io::print_decimal(1, number as u64);
-    io::write_all(1, b": ");
-    io::write_all(1, s);
-    io::write_all(1, b"\n");
+fn print_line<W: Write>(out: &mut W, s: &[u8], number: usize) -> io::Result<()> {
+    write!(out, "line {number}: ")?;
+    out.write_all(s)?;
+    out.write_all(b"\n")
 }
 
 // Counts a line for its call, and prints it where the two disagree.
-fn tally(s: &[u8], number: usize, seen: &mut Counts, agreed: &mut Counts) {
+fn tally<W: Write>(
+    out: &mut W,
+    s: &[u8],
+    number: usize,
+    seen: &mut Counts,
+    agreed: &mut Counts,
+) -> io::Result<()> {
     let verdict = judge(s);
     let call = verdict.call;
     seen[call] = std::num::wrapping_add_u64(seen[call], 1);
     if verdict.agrees {
         agreed[call] = std::num::wrapping_add_u64(agreed[call], 1);
     } else {
-        print_line(s, number);
+        print_line(out, s, number)?;
     }
+    Ok(())
 }
 
 // Tallies every line of a text.
-fn replay(s: &[u8], seen: &mut Counts, agreed: &mut Counts) {
+fn replay<W: Write>(
+    out: &mut W,
+    s: &[u8],
+    seen: &mut Counts,
+    agreed: &mut Counts,
+) -> io::Result<()> {
     let mut at = 0;
     let mut number = 0;
     while at < s.len() {
         let end = line_end(s, at);
         number += 1;
-        tally(&s[at..end], number, seen, agreed);
+        tally(out, &s[at..end], number, seen, agreed)?;
         at = end + 1;
     }
+    Ok(())
 }
 
 // All of the lines, or those that agree.
@@ -99,42 +113,42 @@ fn sum(counts: &Counts) -> u64 {
     total
 }
 
-fn print_counts(agreed: u64, seen: u64) {
-    io::print_decimal(1, agreed);
-    io::write_all(1, b" of ");
-    io::print_decimal(1, seen);
+fn print_counts<W: Write>(out: &mut W, agreed: u64, seen: u64) -> io::Result<()> {
+    write!(out, "{agreed} of {seen}")
 }
 
-fn print_call(call: usize, agreed: u64, seen: u64) {
+fn print_call<W: Write>(out: &mut W, call: usize, agreed: u64, seen: u64) -> io::Result<()> {
     let name = table::name(call);
-    io::write_all(1, &name);
-    print_counts(agreed, seen);
-    io::write_all(1, b"\n");
+    out.write_all(&name)?;
+    print_counts(out, agreed, seen)?;
+    out.write_all(b"\n")
 }
 
-fn print_calls(agreed: &Counts, seen: &Counts) {
+fn print_calls<W: Write>(out: &mut W, agreed: &Counts, seen: &Counts) -> io::Result<()> {
     let mut call = 0;
     while call < CALLS {
-        print_call(call, agreed[call], seen[call]);
+        print_call(out, call, agreed[call], seen[call])?;
         call += 1;
     }
+    Ok(())
 }
 
-fn run(s: &[u8]) {
+fn run<W: Write>(out: &mut W, s: &[u8]) -> io::Result<()> {
     let mut seen = [0u64; 26];
     let mut agreed = [0u64; 26];
-    replay(s, &mut seen, &mut agreed);
-    print_calls(&agreed, &seen);
-    print_counts(sum(&agreed), sum(&seen));
-    io::write_all(1, b" agree\n");
+    replay(out, s, &mut seen, &mut agreed)?;
+    print_calls(out, &agreed, &seen)?;
+    print_counts(out, sum(&agreed), sum(&seen))?;
+    out.write_all(b" agree\n")
 }
 
-fn main() {
+fn main(rt: HostRuntime) -> io::Result<()> {
     let mut text = space();
-    let n = io::read_full(0, &mut text);
+    let n = read_full(&mut rt.reader(), &mut text)?;
+    let mut out = io::writer(&rt);
     if n < SPACE {
-        run(&text[..n]);
+        run(&mut out, &text[..n])
     } else {
-        io::write_all(1, b"input too long\n");
+        out.write_all(b"input too long\n")
     }
 }

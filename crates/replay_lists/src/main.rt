@@ -14,11 +14,14 @@
 
 mod tally;
 
-ghost use Rattle.std.specs.Prelude.{◌≡◌, ◌≤◌, length};
+ghost use Rattle.std.specs.Prelude.{◌≡◌, ◌≤◌, length, IfOk};
 
 use replay_calls::calls::Outcome;
 use replay_calls::{calls, text};
+use replay_values::input::read_full;
 use replay_values::line::line_end;
+use std::io;
+use std::io::Write;
 use tally::Tally;
 
 // A slice of a recorded frame has no more bytes.
@@ -58,7 +61,8 @@ fn same_frame(
 }
 
 // A line of a draw whose arguments start at `at`.
-fn draw_line(
+fn draw_line<W: Write>(
+    out: &mut W,
     s: &[u8],
     at: usize,
     end: usize,
@@ -68,16 +72,17 @@ fn draw_line(
     colors: &mut [u8],
     coverages: &mut [u8],
     marks: &mut [u8],
-) -> Tally {
+) -> io::Result<Tally> {
     let drawn = calls::draw(s, at, t.engine, width, height, colors, coverages, marks);
     let recorded = drawn.next;
     let frame = same_frame(s, recorded, colors, coverages, marks);
-    let counted = tally::draw(t, drawn.agrees);
-    tally::frame(counted, frame.agrees & (frame.next == end), recorded)
+    let counted = tally::draw(out, t, drawn.agrees)?;
+    tally::frame(out, counted, frame.agrees & (frame.next == end), recorded)
 }
 
 // A line of a read. It leaves the frame as it was recorded before.
-fn read_line(
+fn read_line<W: Write>(
+    out: &mut W,
     s: &[u8],
     at: usize,
     end: usize,
@@ -87,17 +92,18 @@ fn read_line(
     colors: &mut [u8],
     coverages: &mut [u8],
     marks: &mut [u8],
-) -> Tally {
+) -> io::Result<Tally> {
     let read = calls::read_word(s, at, width, height, colors, coverages, marks);
     let recorded = t.recorded;
     let frame = same_frame(s, recorded, colors, coverages, marks);
     let agrees = read.agrees & (read.next == end);
-    let counted = tally::read(t, agrees);
-    tally::frame(counted, frame.agrees & (frame.next != 0), recorded)
+    let counted = tally::read(out, t, agrees)?;
+    tally::frame(out, counted, frame.agrees & (frame.next != 0), recorded)
 }
 
 // A line of an emitted pixel by its place. It leaves the frame as it was recorded before.
-fn mask_line(
+fn mask_line<W: Write>(
+    out: &mut W,
     s: &[u8],
     at: usize,
     end: usize,
@@ -107,17 +113,18 @@ fn mask_line(
     colors: &mut [u8],
     coverages: &mut [u8],
     marks: &mut [u8],
-) -> Tally {
+) -> io::Result<Tally> {
     let asked = calls::emitted_pixel(s, at, t.engine, width, height, colors, coverages, marks);
     let recorded = t.recorded;
     let frame = same_frame(s, recorded, colors, coverages, marks);
     let agrees = asked.agrees & (asked.next == end);
-    let counted = tally::mask(t, agrees);
-    tally::frame(counted, frame.agrees & (frame.next != 0), recorded)
+    let counted = tally::mask(out, t, agrees)?;
+    tally::frame(out, counted, frame.agrees & (frame.next != 0), recorded)
 }
 
 // A line of a run of emitted pixels. It leaves the frame as it was recorded before.
-fn masks_line(
+fn masks_line<W: Write>(
+    out: &mut W,
     s: &[u8],
     at: usize,
     end: usize,
@@ -127,13 +134,13 @@ fn masks_line(
     colors: &mut [u8],
     coverages: &mut [u8],
     marks: &mut [u8],
-) -> Tally {
+) -> io::Result<Tally> {
     let asked = calls::emitted_pixels(s, at, t.engine, width, height, colors, coverages, marks);
     let recorded = t.recorded;
     let frame = same_frame(s, recorded, colors, coverages, marks);
     let agrees = asked.agrees & (asked.next == end);
-    let counted = tally::run(t, agrees);
-    tally::frame(counted, frame.agrees & (frame.next != 0), recorded)
+    let counted = tally::run(out, t, agrees)?;
+    tally::frame(out, counted, frame.agrees & (frame.next != 0), recorded)
 }
 
 fn draw_arguments(s: &[u8], at: usize) -> usize {
@@ -159,7 +166,8 @@ fn is_call(s: &[u8], at: usize) -> bool {
     drawn | asked | (read_arguments(s, at) != 0)
 }
 
-fn call_line(
+fn call_line<W: Write>(
+    out: &mut W,
     s: &[u8],
     at: usize,
     end: usize,
@@ -169,25 +177,34 @@ fn call_line(
     colors: &mut [u8],
     coverages: &mut [u8],
     marks: &mut [u8],
-) -> Tally {
+) -> io::Result<Tally> {
     let to_draw = draw_arguments(s, at);
     if to_draw != 0 {
-        return draw_line(s, to_draw, end, t, width, height, colors, coverages, marks);
+        return draw_line(
+            out, s, to_draw, end, t, width, height, colors, coverages, marks,
+        );
     }
     let to_read = read_arguments(s, at);
     if to_read != 0 {
-        return read_line(s, to_read, end, t, width, height, colors, coverages, marks);
+        return read_line(
+            out, s, to_read, end, t, width, height, colors, coverages, marks,
+        );
     }
     let to_run = masks_arguments(s, at);
     if to_run != 0 {
-        return masks_line(s, to_run, end, t, width, height, colors, coverages, marks);
+        return masks_line(
+            out, s, to_run, end, t, width, height, colors, coverages, marks,
+        );
     }
     let to_mask = mask_arguments(s, at);
-    mask_line(s, to_mask, end, t, width, height, colors, coverages, marks)
+    mask_line(
+        out, s, to_mask, end, t, width, height, colors, coverages, marks,
+    )
 }
 
 // The calls of a list, from `start` on, in turn.
-fn call_lines(
+fn call_lines<W: Write>(
+    out: &mut W,
     s: &[u8],
     start: usize,
     t: Tally,
@@ -196,29 +213,36 @@ fn call_lines(
     colors: &mut [u8],
     coverages: &mut [u8],
     marks: &mut [u8],
-) -> Listed
-    ensures { start ≤ result.at }
+) -> io::Result<Listed>
+    ensures { IfOk result (λ listed. start ≤ listed.at) }
 {
     let mut at = start;
     let mut tally = t;
     while at < s.len() {
         if !is_call(s, at) {
-            return Listed { at, tally };
+            return Ok(Listed { at, tally });
         }
         let end = line_end(s, at);
         let next = end + 1;
         let numbered = tally::next_line(tally);
         tally = call_line(
-            s, at, end, numbered, width, height, colors, coverages, marks,
-        );
+            out, s, at, end, numbered, width, height, colors, coverages, marks,
+        )?;
         at = next;
     }
-    Listed { at, tally }
+    Ok(Listed { at, tally })
 }
 
 // Replays the list whose frame is in the line from `at` to `end`; or passes over one line that is no frame. The next starts at `next`.
-fn list(s: &[u8], at: usize, end: usize, next: usize, t: Tally) -> Listed
-    ensures { next ≤ result.at }
+fn list<W: Write>(
+    out: &mut W,
+    s: &[u8],
+    at: usize,
+    end: usize,
+    next: usize,
+    t: Tally,
+) -> io::Result<Listed>
+    ensures { IfOk result (λ listed. next ≤ listed.at) }
 {
     let mut colors = [0u8; SLICE];
     let mut coverages = [0u8; SLICE];
@@ -230,13 +254,14 @@ fn list(s: &[u8], at: usize, end: usize, next: usize, t: Tally) -> Listed
     let second = text::string(s, first.next, &mut coverages);
     let third = text::string(s, second.next, &mut marks);
     if (first.next == 0) | (second.next == 0) | (third.next != end) {
-        let tally = tally::other(t);
-        return Listed { at: next, tally };
+        let tally = tally::other(out, t)?;
+        return Ok(Listed { at: next, tally });
     }
     let a = first.count;
     let b = second.count;
     let c = third.count;
     call_lines(
+        out,
         s,
         next,
         tally::recorded(t, recorded),
@@ -249,29 +274,32 @@ fn list(s: &[u8], at: usize, end: usize, next: usize, t: Tally) -> Listed
 }
 
 // Tallies every line of a text, asked of one engine.
-fn replay(s: &[u8], engine: u8) -> Tally {
+fn replay<W: Write>(out: &mut W, s: &[u8], engine: u8) -> io::Result<Tally> {
     let mut tally = tally::start(engine);
     let mut at = 0;
     while at < s.len() {
         let end = line_end(s, at);
         let next = end + 1;
         let numbered = tally::next_line(tally);
-        let listed = list(s, at, end, next, numbered);
+        let listed = list(out, s, at, end, next, numbered)?;
         tally = listed.tally;
         at = listed.at;
     }
-    tally
+    Ok(tally)
 }
 
-fn main() {
+fn main(rt: HostRuntime) -> io::Result<()> {
     let mut text = space();
-    let n = io::read_full(0, &mut text);
+    let n = read_full(&mut rt.reader(), &mut text)?;
+    let mut out = io::writer(&rt);
     if n < SPACE {
-        io::write_all(1, b"the fast engine\n");
-        tally::print(replay(&text[..n], 0));
-        io::write_all(1, b"the slow engine\n");
-        tally::print(replay(&text[..n], 1));
+        out.write_all(b"the fast engine\n")?;
+        let fast = replay(&mut out, &text[..n], 0)?;
+        tally::print(&mut out, fast)?;
+        out.write_all(b"the slow engine\n")?;
+        let slow = replay(&mut out, &text[..n], 1)?;
+        tally::print(&mut out, slow)
     } else {
-        io::write_all(1, b"input too long\n");
+        out.write_all(b"input too long\n")
     }
 }

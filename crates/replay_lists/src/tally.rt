@@ -1,4 +1,6 @@
 // How many calls there were and how many of them agree, and what is printed of them.
+use std::io;
+use std::io::Write;
 
 #[derive(Clone, Copy)]
 pub struct Tally {
@@ -48,10 +50,9 @@ fn one_more_if(n: u64, yes: bool) -> u64 {
     n
 }
 
-fn complain(line: u64, what: &[u8]) {
-    io::write_all(1, b"line ");
-    io::print_decimal(1, line);
-    io::write_all(1, what);
+fn complain<W: Write>(out: &mut W, line: u64, what: &[u8]) -> io::Result<()> {
+    write!(out, "line {line}")?;
+    out.write_all(what)
 }
 
 pub fn next_line(t: Tally) -> Tally {
@@ -66,70 +67,67 @@ pub fn recorded(t: Tally, at: usize) -> Tally {
     next
 }
 
-pub fn draw(t: Tally, agrees: bool) -> Tally {
+pub fn draw<W: Write>(out: &mut W, t: Tally, agrees: bool) -> io::Result<Tally> {
     if !agrees {
-        complain(t.line, b": another answer to a draw\n");
+        complain(out, t.line, b": another answer to a draw\n")?;
     }
     let mut next = t;
     next.draws = one_more(t.draws);
     next.drawn = one_more_if(t.drawn, agrees);
-    next
+    Ok(next)
 }
 
-pub fn read(t: Tally, agrees: bool) -> Tally {
+pub fn read<W: Write>(out: &mut W, t: Tally, agrees: bool) -> io::Result<Tally> {
     if !agrees {
-        complain(t.line, b": another answer to a read\n");
+        complain(out, t.line, b": another answer to a read\n")?;
     }
     let mut next = t;
     next.reads = one_more(t.reads);
     next.read = one_more_if(t.read, agrees);
-    next
+    Ok(next)
 }
 
-pub fn mask(t: Tally, agrees: bool) -> Tally {
+pub fn mask<W: Write>(out: &mut W, t: Tally, agrees: bool) -> io::Result<Tally> {
     if !agrees {
-        complain(t.line, b": another emitted pixel\n");
+        complain(out, t.line, b": another emitted pixel\n")?;
     }
     let mut next = t;
     next.masks = one_more(t.masks);
     next.masked = one_more_if(t.masked, agrees);
-    next
+    Ok(next)
 }
 
-pub fn run(t: Tally, agrees: bool) -> Tally {
+pub fn run<W: Write>(out: &mut W, t: Tally, agrees: bool) -> io::Result<Tally> {
     if !agrees {
-        complain(t.line, b": another run of emitted pixels\n");
+        complain(out, t.line, b": another run of emitted pixels\n")?;
     }
     let mut next = t;
     next.runs = one_more(t.runs);
     next.ran = one_more_if(t.ran, agrees);
-    next
+    Ok(next)
 }
 
 // The slices after a call, which are recorded at a position.
-pub fn frame(t: Tally, agrees: bool, at: usize) -> Tally {
+pub fn frame<W: Write>(out: &mut W, t: Tally, agrees: bool, at: usize) -> io::Result<Tally> {
     if !agrees {
-        complain(t.line, b": another frame\n");
+        complain(out, t.line, b": another frame\n")?;
     }
     let mut next = recorded(t, at);
     next.frames = one_more(t.frames);
     next.kept = one_more_if(t.kept, agrees);
-    next
+    Ok(next)
 }
 
-pub fn other(t: Tally) -> Tally {
-    complain(t.line, b": no frame and no call\n");
+pub fn other<W: Write>(out: &mut W, t: Tally) -> io::Result<Tally> {
+    complain(out, t.line, b": no frame and no call\n")?;
     let mut next = t;
     next.others = one_more(t.others);
-    next
+    Ok(next)
 }
 
-fn print_counts(name: &[u8], agreed: u64, seen: u64) {
-    io::write_all(1, name);
-    io::print_decimal(1, agreed);
-    io::write_all(1, b" of ");
-    io::print_decimal(1, seen);
-    io::write_all(1, b"\n");
+fn print_counts<W: Write>(out: &mut W, name: &[u8], agreed: u64, seen: u64) -> io::Result<()> {
+    out.write_all(name)?;
+    writeln!(out, "{agreed} of {seen}")
 }
 
 fn all_agree(t: Tally) -> bool {
@@ -138,15 +136,15 @@ fn all_agree(t: Tally) -> bool {
     calls & emitted & (t.frames == t.kept) & (t.others == 0)
 }
 
-pub fn print(t: Tally) {
-    print_counts(b"draw ", t.drawn, t.draws);
-    print_counts(b"read ", t.read, t.reads);
-    print_counts(b"mask ", t.masked, t.masks);
-    print_counts(b"masks ", t.ran, t.runs);
-    print_counts(b"frames ", t.kept, t.frames);
+pub fn print<W: Write>(out: &mut W, t: Tally) -> io::Result<()> {
+    print_counts(out, b"draw ", t.drawn, t.draws)?;
+    print_counts(out, b"read ", t.read, t.reads)?;
+    print_counts(out, b"mask ", t.masked, t.masks)?;
+    print_counts(out, b"masks ", t.ran, t.runs)?;
+    print_counts(out, b"frames ", t.kept, t.frames)?;
     if all_agree(t) {
-        io::write_all(1, b"all agree\n");
+        out.write_all(b"all agree\n")
     } else {
-        io::write_all(1, b"not all agree\n");
+        out.write_all(b"not all agree\n")
     }
 }
