@@ -1,6 +1,6 @@
 -- What the slow engine emits is the emitted list of raster_pixel/specs/Emitted, pixel by pixel, and what that means for the frame and for the slots. Assumes nothing.
 use Prim.Native.Nat.{ℕ, ◌+◌, ◌*◌, ◌/◌, ◌≤◌}
-use mathlib.Core.Path.{◌≡◌, refl, sym, ap, subst, ◌∙◌}
+use mathlib.Core.Path.{◌≡◌, refl, sym, subst, ◌∙◌}
 use mathlib.Core.Bool.{Bool, true, false, cond, ◌||◌}
 use mathlib.Core.List.{List, [], ◌∷◌, map}
 use native.Mathlib.Omega.{arith}
@@ -18,7 +18,6 @@ use Rattle.raster_edges.specs.declared.Tri.{Tri}
 use Rattle.raster_edges.specs.Edge.{area_of}
 use Rattle.raster_edges.specs.Span.{tri_of, edges_of}
 use Rattle.raster_rectangle.specs.declared.Sides.{Sides}
-use Rattle.raster_pixel.specs.declared.Area.{Area}
 use Rattle.raster_pixel.specs.declared.Geometry.{Geometry}
 use Rattle.raster_pixel.specs.declared.Geometry.TheVariants as geometry
 use Rattle.raster_pixel.specs.declared.Scissor.{Scissor}

@@ -2,7 +2,7 @@
 use Prim.Native.Nat.{ℕ, ◌+◌, ◌≤◌, ◌<◌}
 use mathlib.Core.Path.{◌≡◌, refl, sym, ap, subst, ◌∙◌}
 use mathlib.Core.Bool.{Bool, true, false, cond}
-use mathlib.Core.List.{List, [], ◌∷◌, ◌++◌, map, map-append, foldl-append}
+use mathlib.Core.List.{List, [], ◌∷◌, ◌++◌, map-append, foldl-append}
 use native.Mathlib.Omega.{arith}
 use lib.ListN.{length}
 use Rattle.raster_pixel.specs.Emitted.{Emit}

@@ -1,9 +1,8 @@
 -- `draw_pixel` meets its contract: what the rules answer of what is known is stored as far as it is known, which is a step of the frame (`stored-known`).
 use Prim.Native.Nat.{ℕ, ◌≤◌, ◌<◌}
-use mathlib.Core.Path.{◌≡◌, sym, ap, subst, ◌∙◌}
-use mathlib.Core.Bool.{Bool, true, false, cond}
+use mathlib.Core.Path.{sym, subst, ◌∙◌}
+use mathlib.Core.Bool.{cond}
 use native.Mathlib.Omega.{arith}
-use borrow.Author.Tests.{not-true, not-false}
 use lib.ListN.{length}
 use Rattle.num_bits.proofs.Masks.{ones_range}
 use Rattle.blender.specs.Blend.{or_zero}
@@ -24,72 +23,69 @@ abbrev frame : tie.Start → Frame
 frame s = frame_of s.args.colors.now s.args.coverages.now s.args.marks.now
 
 abbrev stepped : tie.Start → Frame
-stepped s = let a = s.args in step_frame a.mode a.combiner (frame s) (emit_of a.pixel a.mask a.color a.shade-alpha)
+stepped s = let a = s.args in step_frame a.mode a.combiner (frame s) (emit_of a.pixel a.mask a.color a.shade_alpha)
 
 -- the frame is there
-drawn : (e : tie.Else1) → (let a = e.before.before.before.before.args in (a.pixel < length a.marks.now) × Fit (length a.marks.now) (frame e.before.before.before.before))
-drawn e = e.before.before.before.before.requires.1 (not-false _ e.if1.false)
+drawn : (e : tie.Else-not-draws) → (let a = e.args in (a.pixel < length a.marks.now) × Fit (length a.marks.now) (frame e.before.before.before.before))
+drawn e = e.requires.1 (e.if-not-draws.false)
 
-returns : tie.Need-returns
-returns c =
+returns-then-not-draws : tie.Need-returns-then-not-draws
+returns-then-not-draws c =
     let s = c.before.before.before.before in
-    λ i. cond (sym (not-true s.args.draws c.if1.true) i) (stepped s) (frame s)
+    λ i. cond (sym (c.if-not-draws.true) i) (stepped s) (frame s)
 
-known-pixel-requires : tie.Need-known-pixel-requires
-known-pixel-requires c κs = let e = c.before.before.before in let p = drawn e in fit_loadable p.1 p.0
+known_pixel-before-requires : tie.Need-known_pixel-before-requires
+known_pixel-before-requires c κs = let p = drawn c in fit_loadable p.1 p.0
 
-ones-requires : tie.Need-ones-requires
-ones-requires c κs = search rules
+ones-count-requires : tie.Need-ones-count-requires
+ones-count-requires c κs = search rules
 
-rules-requires : tie.Need-rules-requires
-rules-requires c κs =
-    let e = c.before.before.before.before.before in
+rules-after-requires : tie.Need-rules-after-requires
+rules-after-requires c κs =
+    let e = c.before.before in
     let s = e.before.before.before.before in
     let a = s.args in
     let r = ones_range a.mask s.requires.0 (omega arith) in (
-      omega (arith, r.0, r.1, c.ones.ensures),
-      subst (λ (x : Pixel). or_zero (coverage_at x) ≤ 7) (sym c.before.known-pixel.ensures)
+      omega (arith, r.0, r.1, c.ones-count.ensures),
+      subst (λ (x : Pixel). or_zero (coverage_at x) ≤ 7) (sym c.known_pixel-before.ensures)
           (subst (λ (m : ℕ). m ≤ 7) (sym (known_sound (pixel_at (frame s) a.pixel))) ((drawn e).1.sound a.pixel)),
     )
 
-put-pixel-requires : tie.Need-put-pixel-requires
-put-pixel-requires c κs =
-    let e = c.before.before.before.before.before.before.before.before.before in
+put_pixel-requires : tie.Need-put_pixel-requires
+put_pixel-requires c κs =
+    let e = c.before.before.before.before.before.before in
     let p = drawn e in
     (p.0, record { colors = rw p.1.marks p.1.colors; coverages = rw p.1.marks p.1.coverages })
 
-same_length : tie.Need-same-length
-same_length c = search rules
+shape_of-colors : tie.Need-shape_of-colors
+shape_of-colors c = search rules
 
-same-length-2 : tie.Need-same-length-2
-same-length-2 c = search rules
+shape_of-coverages : tie.Need-shape_of-coverages
+shape_of-coverages c = search rules
 
-same-length-3 : tie.Need-same-length-3
-same-length-3 c = search rules
+shape_of-marks : tie.Need-shape_of-marks
+shape_of-marks c = search rules
 
-returns-2 : tie.Need-returns-2
-returns-2 c =
-    let pc = c.before.before.before.before.before.before in
-    let st = pc.before.before.before.before in
-    let n = st.before in
-    let e = n.before.before.before.before.before in
+returns : tie.Need-returns
+returns c =
+    let e = c.before.before.before.before.before.before.before.before.before.before.before.before.before in
     let p = drawn e in
     let s = e.before.before.before.before in
     let a = s.args in
-    stored-known a.mode a.combiner (frame s) a.pixel a.mask a.color a.shade-alpha n.ones.ensures n.before.known-pixel.ensures st.rules.ensures pc.put-pixel.ensures
+    stored-known a.mode a.combiner (frame s) a.pixel a.mask a.color a.shade_alpha c.ones-count.ensures c.known_pixel-before.ensures c.rules-after.ensures c.put_pixel.ensures
     (omega (arith, p.0, p.1.colors)) (omega (arith, p.0, p.1.coverages))
-    ∙ (λ i. cond (sym (not-false a.draws e.if1.false) i) (stepped s) (frame s))
+    ∙ (λ i. cond (sym c.if-not-draws.false i) (stepped s) (frame s))
 
-pub draw-pixel-spec : {M : Type 1} → statement M
-draw-pixel-spec =
+pub draw_pixel_spec : {M : Type 1} → statement M
+draw_pixel_spec =
     tie.close
     (tie.spec
-    returns
-    known-pixel-requires
-    ones-requires
-    rules-requires
-    put-pixel-requires
-    same_length
-    same-length-2
-    same-length-3
-    returns-2)
+    returns-then-not-draws
+    known_pixel-before-requires
+    ones-count-requires
+    rules-after-requires
+    put_pixel-requires
+    shape_of-colors
+    shape_of-coverages
+    shape_of-marks
+    returns)

@@ -12,8 +12,8 @@ use Rattle.raster_edge.proofs.Held.{Held, any, uns, le_is, lt_is}
 use Rattle.rasterize_slow.proofs.held.Statement.{statement}
 use Rattle.rasterize_slow.proofs.held.Tie as tie
 
-cast-p : tie.Need-overflow-cast-p
-cast-p c = search rules
+overflow_cast-p : tie.Need-overflow_cast-p
+overflow_cast-p c = search rules
 
 place : (s : tie.Start) → Held s.args.at (pos s.args.at) (2 ^ 32)
 place s = uns (le_of_lt s.ranges.at.fits) tt
@@ -24,15 +24,15 @@ left_of s = le_is (any s.ranges.left) (place s)
 right_of_lem : (s : tie.Start) → lt_z (to_z w64 s.args.at) (to_z w64 (of_z w64 s.args.right)) ≡ lt_z (pos s.args.at) s.args.right
 right_of_lem s = lt_is (place s) (any s.ranges.right)
 
-returns : tie.Need-returns
-returns c =
+returns-then-left-p : tie.Need-returns-then-left-p
+returns-then-left-p c =
     let s = c.before in
-    right_of_lem s ∙ (λ i. sym (sym (left_of s) ∙ c.if1.true) i && lt_z (pos s.args.at) s.args.right)
+    right_of_lem s ∙ (λ i. sym (sym (left_of s) ∙ c.if-left-p.true) i && lt_z (pos s.args.at) s.args.right)
 
-returns-2 : tie.Need-returns-2
-returns-2 c =
+returns-else-left-p : tie.Need-returns-else-left-p
+returns-else-left-p c =
     let s = c.before in
-    c.if1.false ∙ (λ i. sym (sym (left_of s) ∙ c.if1.false) i && lt_z (pos s.args.at) s.args.right)
+    c.if-left-p.false ∙ (λ i. sym (sym (left_of s) ∙ c.if-left-p.false) i && lt_z (pos s.args.at) s.args.right)
 
 pub held_spec : {M : Type 1} → statement M
-held_spec = tie.close (tie.spec cast-p returns returns-2)
+held_spec = tie.close (tie.spec overflow_cast-p returns-then-left-p returns-else-left-p)

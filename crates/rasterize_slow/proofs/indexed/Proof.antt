@@ -5,34 +5,28 @@ use borrow.Author.Rules.{rules}
 use Rattle.rasterize_slow.proofs.indexed.Statement.{statement}
 use Rattle.rasterize_slow.proofs.indexed.Tie as tie
 
-triangle-at-requires : tie.Need-triangle-at-requires
-triangle-at-requires c κs = search rules
+triangle_at-requires : tie.Need-triangle_at-requires
+triangle_at-requires c κs = search rules
 
-enum-known-a : tie.Need-enum-known-a
-enum-known-a c = search rules
+enum_known-a : tie.Need-enum_known-a
+enum_known-a c = search rules
 
-enum_told : tie.Need-enum-told
-enum_told c = search rules
+enum_told-1 : tie.Need-enum_told-1
+enum_told-1 c = search rules
 
-returns : tie.Need-returns
-returns c =
-    let t = c.before.before in
-    ap (three_shape t.before.before.before.before.args.cull) (sym c.enum_told.given.1 ∙ t.triangle-at.ensures)
+returns-in_default : tie.Need-returns-in_default
+returns-in_default c =
+    ap (three_shape c.args.cull) (sym c.in_default.is ∙ c.triangle_at.ensures)
 
 triangle-requires : tie.Need-triangle-requires
 triangle-requires c κs =
-    let k = c.before in
-    let t = k.before.before in
-    let s = t.before.before.before.before in
-    s.requires.1 _ s.requires.0 _ _ _ (sym t.triangle-at.ensures ∙ k.a.given.1)
+    c.requires.1 _ c.requires.0 _ _ _ (sym c.triangle_at.ensures ∙ c.in-Vertices.is)
 
-returns-2 : tie.Need-returns-2
-returns-2 c =
-    let k = c.before.before in
-    let t = k.before.before in
-    c.triangle.ensures ∙ ap (three_shape t.before.before.before.before.args.cull) (sym k.a.given.1 ∙ t.triangle-at.ensures)
+returns : tie.Need-returns
+returns c =
+    c.triangle.ensures ∙ ap (three_shape c.args.cull) (sym c.in-Vertices.is ∙ c.triangle_at.ensures)
 
-pub indexed-spec : {M : Type 1} → statement M
-indexed-spec =
+pub indexed_spec : {M : Type 1} → statement M
+indexed_spec =
     tie.close
-    (tie.spec triangle-at-requires enum-known-a enum_told returns triangle-requires returns-2)
+    (tie.spec triangle_at-requires enum_known-a enum_told-1 returns-in_default triangle-requires returns)

@@ -17,17 +17,17 @@ use Rattle.rasterize_slow.proofs.list_pixels.Tie as tie
 abbrev walk_of : tie.Start → Area → Walk
 walk_of s ar = let a = s.args in record { draws = false; window = a.window; mode = a.mode; combiner = a.combiner; width = a.width; area = ar }
 
-scissor-area-requires : tie.Need-scissor-area-requires
-scissor-area-requires c κs = search rules
+scissor_area-area-requires : tie.Need-scissor_area-area-requires
+scissor_area-area-requires c κs = search rules
 
-slice-aggregate-visit : tie.Need-slice-aggregate-visit
-slice-aggregate-visit c = search rules
+slice_bounds-visit-end : tie.Need-slice_bounds-visit-end
+slice_bounds-visit-end c = search rules
 
-slice-aggregate-visit-2 : tie.Need-slice-aggregate-visit-2
-slice-aggregate-visit-2 c = search rules
+slice_bounds-visit-end-2 : tie.Need-slice_bounds-visit-end-2
+slice_bounds-visit-end-2 c = search rules
 
-slice-aggregate-visit-3 : tie.Need-slice-aggregate-visit-3
-slice-aggregate-visit-3 c = search rules
+slice_bounds-visit-end-3 : tie.Need-slice_bounds-visit-end-3
+slice_bounds-visit-end-3 c = search rules
 
 visit-requires : tie.Need-visit-requires
 visit-requires c κs =
@@ -35,14 +35,14 @@ visit-requires c κs =
     let s = q.before.before.before.before.before.before in
     let a = s.args in (
       record { room = λ e. absurd (true≢false (sym e)); ready = s.requires.0 },
-      (laid (walk_of s q.scissor-area.result) a.scissor a.height q.scissor-area.ensures s.requires.1.0.0, s.requires.1.1),
+      (laid (walk_of s q.scissor_area-area.result) a.scissor a.height q.scissor_area-area.ensures s.requires.1.0.0, s.requires.1.1),
     )
 
-same_length : tie.Need-same-length
-same_length c = search rules
+shape_of-pixels : tie.Need-shape_of-pixels
+shape_of-pixels c = search rules
 
-same-length-2 : tie.Need-same-length-2
-same-length-2 c = search rules
+shape_of-masks : tie.Need-shape_of-masks
+shape_of-masks c = search rules
 
 returns : tie.Need-returns
 returns c =
@@ -53,18 +53,18 @@ returns c =
     let masks =
     geometry-masks a.combiner (mixed_by (resolved_of a.combiner)) s.requires.1.0.1 a.mode a.cull a.scissor a.width a.height a.vertices.now a.present.now a.indices.now a.geometry in
     let emitted =
-    walk-emits (walk_of s q.scissor-area.result) a.scissor a.height q.scissor-area.ensures a.cull a.vertices.now a.present.now a.indices.now a.geometry in
+    walk-emits (walk_of s q.scissor_area-area.result) a.scissor a.height q.scissor_area-area.ensures a.cull a.vertices.now a.present.now a.indices.now a.geometry in
     listed_as (ap (map masked_of) emitted ∙ masks) v.visit.ensures.listed
 
-pub list-pixels-spec : {M : Type 1} → statement M
-list-pixels-spec =
+pub list_pixels_spec : {M : Type 1} → statement M
+list_pixels_spec =
     tie.close
     (tie.spec
-    scissor-area-requires
-    slice-aggregate-visit
-    slice-aggregate-visit-2
-    slice-aggregate-visit-3
+    scissor_area-area-requires
+    slice_bounds-visit-end
+    slice_bounds-visit-end-2
+    slice_bounds-visit-end-3
     visit-requires
-    same_length
-    same-length-2
+    shape_of-pixels
+    shape_of-masks
     returns)

@@ -7,27 +7,27 @@ use borrow.Author.Rules.{rules}
 use Rattle.rasterize_slow.proofs.mask.Statement.{statement}
 use Rattle.rasterize_slow.proofs.mask.Tie as tie
 
-pair-requires : tie.Need-pair-requires
-pair-requires c κs = search rules
+pair-a-requires : tie.Need-pair-a-requires
+pair-a-requires c κs = search rules
 
-pair-requires-2 : tie.Need-pair-requires-2
-pair-requires-2 c κs = search rules
+pair-b-requires : tie.Need-pair-b-requires
+pair-b-requires c κs = search rules
 
-pair-requires-3 : tie.Need-pair-requires-3
-pair-requires-3 c κs = search rules
+pair-c-requires : tie.Need-pair-c-requires
+pair-c-requires c κs = search rules
 
-pair-requires-4 : tie.Need-pair-requires-4
-pair-requires-4 c κs = search rules
+pair-d-requires : tie.Need-pair-d-requires
+pair-d-requires c κs = search rules
 
 returns : tie.Need-returns
 unfolding shape_mask
 returns c =
     let p = c.before.before.before in
-    let s = p.before.args in
-    (λ i. bits (p.pair.ensures i) (c.before.before.pair2.ensures i) (c.before.pair3.ensures i) (c.pair4.ensures i))
+    let s = p.args in
+    (λ i. bits (p.pair-a.ensures i) (c.pair-b.ensures i) (c.pair-c.ensures i) (c.pair-d.ensures i))
     ∙ four_pairs (pair_hit s.shape s.y s.x 0) (pair_hit s.shape s.y s.x 1) (pair_hit s.shape s.y s.x 2) (pair_hit s.shape s.y s.x 3)
     (pair_lt s.shape s.y s.x 0) (pair_lt s.shape s.y s.x 1) (pair_lt s.shape s.y s.x 2) (pair_lt s.shape s.y s.x 3)
 
-pub mask-spec : {M : Type 1} → statement M
-mask-spec =
-    tie.close (tie.spec pair-requires pair-requires-2 pair-requires-3 pair-requires-4 returns)
+pub mask_spec : {M : Type 1} → statement M
+mask_spec =
+    tie.close (tie.spec pair-a-requires pair-b-requires pair-c-requires pair-d-requires returns)

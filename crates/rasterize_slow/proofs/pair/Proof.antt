@@ -19,23 +19,23 @@ as_bit false = refl
 sample-requires : tie.Need-sample-requires
 sample-requires c κs = search rules
 
-cast-result : tie.Need-overflow-cast-result
-cast-result c = search rules
+overflow_cast-result : tie.Need-overflow_cast-result
+overflow_cast-result c = search rules
 
 sample-requires-2 : tie.Need-sample-requires-2
 sample-requires-2 c κs = search rules
 
-cast-result-2 : tie.Need-overflow-cast-result-2
-cast-result-2 c = search rules
+overflow_cast-result-2 : tie.Need-overflow_cast-result-2
+overflow_cast-result-2 c = search rules
 
 returns : tie.Need-returns
 unfolding pair_hit
 returns c =
-    let s = c.before.before.args in
-    let left = as_bit c.before.sample.result ∙ ap bit_of c.before.sample.ensures in
-    let right = as_bit c.sample2.result ∙ ap bit_of c.sample2.ensures in
+    let s = c.args in
+    let left = as_bit c.sample.result ∙ ap bit_of c.sample.ensures in
+    let right = as_bit c.sample-2.result ∙ ap bit_of c.sample-2.ensures in
     (λ i. bit_or ((left i * 2) % 2 ^ 8) (right i)) ∙ two_bits (sample_hit s.shape s.y s.x s.line 0) (sample_hit s.shape s.y s.x s.line 1)
 
 pub pair_spec : {M : Type 1} → statement M
 pair_spec =
-    tie.close (tie.spec sample-requires cast-result sample-requires-2 cast-result-2 returns)
+    tie.close (tie.spec sample-requires overflow_cast-result sample-requires-2 overflow_cast-result-2 returns)

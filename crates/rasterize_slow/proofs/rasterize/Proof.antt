@@ -20,14 +20,14 @@ use Rattle.rasterize_slow.proofs.rasterize.Tie as tie
 abbrev walk_of : tie.Start → Area → Walk
 walk_of s ar = let a = s.args in record { draws = true; window = record { first = 0; limit = 18446744073709551615 }; mode = a.mode; combiner = a.combiner; width = a.width; area = ar }
 
-scissor-area-requires : tie.Need-scissor-area-requires
-scissor-area-requires c κs = search rules
+scissor_area-area-requires : tie.Need-scissor_area-area-requires
+scissor_area-area-requires c κs = search rules
 
-slice-aggregate-visit : tie.Need-slice-aggregate-visit
-slice-aggregate-visit c = search rules
+slice_bounds-visit-end : tie.Need-slice_bounds-visit-end
+slice_bounds-visit-end c = search rules
 
-slice-aggregate-visit-2 : tie.Need-slice-aggregate-visit-2
-slice-aggregate-visit-2 c = search rules
+slice_bounds-visit-end-2 : tie.Need-slice_bounds-visit-end-2
+slice_bounds-visit-end-2 c = search rules
 
 visit-requires : tie.Need-visit-requires
 visit-requires c κs =
@@ -35,24 +35,24 @@ visit-requires c κs =
     let s = q.before.before.before.before.before.before.before in
     let a = s.args in
     let z = s.requires.1.1.0 in
-    let ea = q.scissor-area.ensures in (
+    let ea = q.scissor_area-area.ensures in (
       record { room = λ e. room_less s.requires.1.1.1 (bounded a.scissor a.width a.height ea).bottom_in; ready = record { within = omega arith; matched = refl } },
       (
-        laid (walk_of s q.scissor-area.result) a.scissor a.height ea z,
+        laid (walk_of s q.scissor_area-area.result) a.scissor a.height ea z,
         λ g.
             admitted_near a.combiner a.vertices.now a.present.now a.indices.now
             (subst (λ (x : Geometry). admitted_of a.combiner x a.vertices.now a.present.now a.indices.now ≡ true) g s.requires.1.0),
       ),
     )
 
-same_length : tie.Need-same-length
-same_length c = search rules
+shape_of-colors : tie.Need-shape_of-colors
+shape_of-colors c = search rules
 
-same-length-2 : tie.Need-same-length-2
-same-length-2 c = search rules
+shape_of-coverages : tie.Need-shape_of-coverages
+shape_of-coverages c = search rules
 
-same-length-3 : tie.Need-same-length-3
-same-length-3 c = search rules
+shape_of-marks : tie.Need-shape_of-marks
+shape_of-marks c = search rules
 
 returns : tie.Need-returns
 returns c =
@@ -61,20 +61,20 @@ returns c =
     let s = q.before.before.before.before.before.before.before in
     let a = s.args in
     let z = s.requires.1.1.0 in
-    let walk = walk_of s q.scissor-area.result in
+    let walk = walk_of s q.scissor_area-area.result in
     let few = geometry-most a.scissor z.width_small z.height_small a.mode a.combiner a.cull a.vertices.now a.present.now a.indices.now a.geometry in
     sent-drew walk refl (omega (arith, few, s.requires.0))
-    (sent_as (walk-emits walk a.scissor a.height q.scissor-area.ensures a.cull a.vertices.now a.present.now a.indices.now a.geometry) v.visit.ensures)
+    (sent_as (walk-emits walk a.scissor a.height q.scissor_area-area.ensures a.cull a.vertices.now a.present.now a.indices.now a.geometry) v.visit.ensures)
 
-pub rasterize-spec : {M : Type 1} → statement M
-rasterize-spec =
+pub rasterize_spec : {M : Type 1} → statement M
+rasterize_spec =
     tie.close
     (tie.spec
-    scissor-area-requires
-    slice-aggregate-visit
-    slice-aggregate-visit-2
+    scissor_area-area-requires
+    slice_bounds-visit-end
+    slice_bounds-visit-end-2
     visit-requires
-    same_length
-    same-length-2
-    same-length-3
+    shape_of-colors
+    shape_of-coverages
+    shape_of-marks
     returns)

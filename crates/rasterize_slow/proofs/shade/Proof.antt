@@ -5,46 +5,45 @@ use borrow.Author.Rules.{rules}
 use Rattle.rasterize_slow.proofs.shade.Statement.{statement}
 use Rattle.rasterize_slow.proofs.shade.Tie as tie
 
-enum-known-shape : tie.Need-enum-known-shape
-enum-known-shape c = search rules
+enum_known-shape : tie.Need-enum_known-shape
+enum_known-shape c = search rules
 
 shade-requires : tie.Need-shade-requires
 shade-requires c κs = search rules
 
-enum_told : tie.Need-enum-told
-enum_told c = search rules
+enum_told-1 : tie.Need-enum_told-1
+enum_told-1 c = search rules
 
-full-shade-requires : tie.Need-full-shade-requires
-full-shade-requires c κs = search rules
+full_shade-requires : tie.Need-full_shade-requires
+full_shade-requires c κs = search rules
 
-enum-told-2 : tie.Need-enum-told-2
-enum-told-2 c = search rules
+enum_told-in-Rectangle : tie.Need-enum_told-in-Rectangle
+enum_told-in-Rectangle c = search rules
 
-full-shade-requires-2 : tie.Need-full-shade-requires-2
-full-shade-requires-2 c κs = search rules
+full_shade-requires-in-Rectangle : tie.Need-full_shade-requires-in-Rectangle
+full_shade-requires-in-Rectangle c κs = search rules
 
-returns : tie.Need-returns
-returns c =
-    let e = c.before.before in
-    let s = e.before.before.args in
-    c.shade.ensures ∙ (λ i. shape_shade (sym e.shape.given.1 i) s.y s.x)
+returns-in-Triangle : tie.Need-returns-in-Triangle
+returns-in-Triangle c =
+    let s = c.args in
+    c.shade.ensures ∙ (λ i. shape_shade (sym c.in-Triangle.is i) s.y s.x)
 
-returns-2 : tie.Need-returns-2
-returns-2 c = search rules
+returns-in-Nothing : tie.Need-returns-in-Nothing
+returns-in-Nothing c = search rules
 
-returns-3 : tie.Need-returns-3
-returns-3 c = search rules
+returns-in-Rectangle : tie.Need-returns-in-Rectangle
+returns-in-Rectangle c = search rules
 
-pub shade-spec : {M : Type 1} → statement M
-shade-spec =
+pub shade_spec : {M : Type 1} → statement M
+shade_spec =
     tie.close
     (tie.spec
-    enum-known-shape
+    enum_known-shape
     shade-requires
-    enum_told
-    full-shade-requires
-    enum-told-2
-    full-shade-requires-2
-    returns
-    returns-2
-    returns-3)
+    enum_told-1
+    full_shade-requires
+    enum_told-in-Rectangle
+    full_shade-requires-in-Rectangle
+    returns-in-Triangle
+    returns-in-Nothing
+    returns-in-Rectangle)

@@ -12,62 +12,62 @@ use Rattle.rasterize_slow.proofs.triangle.Tie as tie
 culled-requires : tie.Need-culled-requires
 culled-requires c κs = search rules
 
-returns : tie.Need-returns
-returns c =
-    let s = c.before.before.args in
-    culled_nothing s.cull s.a s.b s.c (sym c.before.culled.ensures ∙ c.if1.true)
+returns-then-culled : tie.Need-returns-then-culled
+returns-then-culled c =
+    let s = c.args in
+    culled_nothing s.cull s.a s.b s.c (sym c.culled.ensures ∙ c.if-culled.true)
 
-sort-requires : tie.Need-sort-requires
-sort-requires c κs = search rules
+sort-v-requires : tie.Need-sort-v-requires
+sort-v-requires c κs = search rules
 
-corners-requires : tie.Need-corners-requires
-corners-requires c κs = search rules
+corners-corners-requires : tie.Need-corners-corners-requires
+corners-corners-requires c κs = search rules
 
-quarter-area-requires : tie.Need-quarter-area-requires
-quarter-area-requires c κs = near _ _ _ c.before.sort.ensures c.corners.ensures c.before.before.before.before.requires
+quarter_area-requires : tie.Need-quarter_area-requires
+quarter_area-requires c κs = near _ _ _ c.sort-v.ensures c.corners-corners.ensures c.requires
 
-returns-2 : tie.Need-returns-2
-returns-2 c =
+returns-then-quarter_area-eq0 : tie.Need-returns-then-quarter_area-eq0
+returns-then-quarter_area-eq0 c =
     let q = c.before in
     let u = q.before.before.before.before in
-    let s = u.before.args in
-    area_nothing s.cull s.a s.b s.c q.before.before.sort.ensures q.before.corners.ensures q.quarter-area.ensures
-    (sym u.culled.ensures ∙ q.before.before.before.if1.false)
-    (sym (to_z-of_z w64 q.quarter-area.result (record { sfits = q.quarter-area.type-inv })) ∙ ap (to_z w64) c.if2.true)
+    let s = u.args in
+    area_nothing s.cull s.a s.b s.c q.sort-v.ensures q.corners-corners.ensures q.quarter_area.ensures
+    (sym u.culled.ensures ∙ q.if-culled.false)
+    (sym (to_z-of_z w64 q.quarter_area.result (record { sfits = q.quarter_area.type_inv })) ∙ ap (to_z w64) c.if-quarter_area-eq0.true)
 
-setup-requires : tie.Need-setup-requires
-setup-requires c κs = near _ _ _ c.before.before.before.sort.ensures c.before.before.corners.ensures c.before.before.before.before.before.before.requires
+setup-t-requires : tie.Need-setup-t-requires
+setup-t-requires c κs = near _ _ _ c.sort-v.ensures c.corners-corners.ensures c.requires
 
-array-copy-out-top : tie.Need-array-copy-out-top
-array-copy-out-top c = search rules
+bounds-v-0 : tie.Need-bounds-v-0
+bounds-v-0 c = search rules
 
-array-copy-out-middle : tie.Need-array-copy-out-middle
-array-copy-out-middle c = search rules
+bounds-v-1 : tie.Need-bounds-v-1
+bounds-v-1 c = search rules
 
-array-copy-out-bottom : tie.Need-array-copy-out-bottom
-array-copy-out-bottom c = search rules
+bounds-v-2 : tie.Need-bounds-v-2
+bounds-v-2 c = search rules
 
-returns-3 : tie.Need-returns-3
-returns-3 c =
+returns : tie.Need-returns
+returns c =
     let t = c.before.before.before in
     let q = t.before.before in
     let u = q.before.before.before.before in
-    let s = u.before.args in
-    triangle-there s.cull s.a s.b s.c q.before.before.sort.ensures q.before.corners.ensures q.quarter-area.ensures
-    (sym u.culled.ensures ∙ q.before.before.before.if1.false) (λ z. t.before.if2.false (ap (of_z w64) z)) t.setup.ensures
+    let s = u.args in
+    triangle-there s.cull s.a s.b s.c q.sort-v.ensures q.corners-corners.ensures q.quarter_area.ensures
+    (sym u.culled.ensures ∙ q.if-culled.false) (λ z. t.if-quarter_area-eq0.false (ap (of_z w64) z)) t.setup-t.ensures
 
-pub triangle-spec : {M : Type 1} → statement M
-triangle-spec =
+pub triangle_spec : {M : Type 1} → statement M
+triangle_spec =
     tie.close
     (tie.spec
     culled-requires
-    returns
-    sort-requires
-    corners-requires
-    quarter-area-requires
-    returns-2
-    setup-requires
-    array-copy-out-top
-    array-copy-out-middle
-    array-copy-out-bottom
-    returns-3)
+    returns-then-culled
+    sort-v-requires
+    corners-corners-requires
+    quarter_area-requires
+    returns-then-quarter_area-eq0
+    setup-t-requires
+    bounds-v-0
+    bounds-v-1
+    bounds-v-2
+    returns)
