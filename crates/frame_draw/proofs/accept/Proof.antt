@@ -5,47 +5,47 @@ use borrow.Author.Rules.{rules}
 use Rattle.frame_draw.proofs.accept.Statement.{statement}
 use Rattle.frame_draw.proofs.accept.Tie as tie
 
-entry-refusal-requires : tie.Need-entry-refusal-requires
-entry-refusal-requires c κs = search rules
+entry_refusal-refusal-requires : tie.Need-entry_refusal-refusal-requires
+entry_refusal-refusal-requires c κs = search rules
 
-returns : tie.Need-returns
-returns c = early _ _ _ _ c.before.entry-refusal.ensures c.if1.true
+returns-then-refusal-ne0 : tie.Need-returns-then-refusal-ne0
+returns-then-refusal-ne0 c = early _ _ _ _ c.entry_refusal-refusal.ensures c.if-refusal-ne0.true
 
 new-requires : tie.Need-new-requires
 new-requires c κs = search rules
 
-enum-known-combiner : tie.Need-enum-known-combiner
-enum-known-combiner c = search rules
+enum_known-combiner : tie.Need-enum_known-combiner
+enum_known-combiner c = search rules
 
-enum_told : tie.Need-enum-told
-enum_told c = search rules
+enum_told-1 : tie.Need-enum_told-1
+enum_told-1 c = search rules
 
-returns-2 : tie.Need-returns-2
-returns-2 c = sixth _ _ _ _ c.before.before.before.before.entry-refusal.ensures c.before.before.before.if1.false c.before.before.new.ensures.1 c.enum_told.given.1
+returns-in_default : tie.Need-returns-in_default
+returns-in_default c = sixth _ _ _ _ c.entry_refusal-refusal.ensures c.if-refusal-ne0.false c.new.ensures.1 c.in_default.is
 
 admitted-requires : tie.Need-admitted-requires
 admitted-requires c κs = search rules
 
-returns-3 : tie.Need-returns-3
-returns-3 c =
-    seventh _ _ _ _ c.before.before.before.before.before.before.before.entry-refusal.ensures c.before.before.before.before.before.before.if1.false c.before.before.before.before.before.new.ensures.1 c.before.before.before.combiner.given.1
-    (was_false c.before.admitted.ensures c.if2.true)
+returns-then-not-admitted : tie.Need-returns-then-not-admitted
+returns-then-not-admitted c =
+    seventh _ _ _ _ c.entry_refusal-refusal.ensures c.if-refusal-ne0.false c.new.ensures.1 c.in-With.is
+    (was_false c.admitted.ensures c.if-not-admitted.true-raw)
 
-returns-4 : tie.Need-returns-4
-returns-4 c =
-    taken _ _ _ _ c.before.before.before.before.before.before.before.entry-refusal.ensures c.before.before.before.before.before.before.if1.false c.before.before.before.before.before.new.ensures.1 c.before.before.before.combiner.given.1
-    (was_true c.before.admitted.ensures c.if2.false)
+returns : tie.Need-returns
+returns c =
+    taken _ _ _ _ c.entry_refusal-refusal.ensures c.if-refusal-ne0.false c.new.ensures.1 c.in-With.is
+    (was_true c.admitted.ensures c.if-not-admitted.false-raw)
 
-pub accept-spec : {M : Type 1} → statement M
-accept-spec =
+pub accept_spec : {M : Type 1} → statement M
+accept_spec =
     tie.close
     (tie.spec
-    entry-refusal-requires
-    returns
+    entry_refusal-refusal-requires
+    returns-then-refusal-ne0
     new-requires
-    enum-known-combiner
-    enum_told
-    returns-2
+    enum_known-combiner
+    enum_told-1
+    returns-in_default
     admitted-requires
-    returns-3
-    returns-4)
+    returns-then-not-admitted
+    returns)

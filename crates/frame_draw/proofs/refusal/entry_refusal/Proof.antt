@@ -5,39 +5,39 @@ use borrow.Author.Rules.{rules}
 use Rattle.frame_draw.proofs.refusal.entry_refusal.Statement.{statement}
 use Rattle.frame_draw.proofs.refusal.entry_refusal.Tie as tie
 
-frame-refusal-requires : tie.Need-frame-refusal-requires
-frame-refusal-requires c κs = search rules
+frame_refusal-refusal-requires : tie.Need-frame_refusal-refusal-requires
+frame_refusal-refusal-requires c κs = search rules
+
+returns-then-refusal-ne0 : tie.Need-returns-then-refusal-ne0
+returns-then-refusal-ne0 c = early _ _ _ _ _ _ _ c.frame_refusal-refusal.ensures c.if-refusal-ne0.true
+
+scissor_ok-requires : tie.Need-scissor_ok-requires
+scissor_ok-requires c κs = search rules
+
+returns-then-not-scissor_ok : tie.Need-returns-then-not-scissor_ok
+returns-then-not-scissor_ok c = fourth _ _ _ _ _ _ _ c.frame_refusal-refusal.ensures c.if-refusal-ne0.false (was_false c.scissor_ok.ensures c.if-not-scissor_ok.true-raw)
+
+inputs_ok-requires : tie.Need-inputs_ok-requires
+inputs_ok-requires c κs = search rules
+
+returns-then-not-inputs_ok : tie.Need-returns-then-not-inputs_ok
+returns-then-not-inputs_ok c =
+    fifth _ _ _ _ _ _ _ c.frame_refusal-refusal.ensures c.if-refusal-ne0.false (was_true c.scissor_ok.ensures c.if-not-scissor_ok.false-raw)
+    (was_false c.inputs_ok.ensures c.if-not-inputs_ok.true-raw)
 
 returns : tie.Need-returns
-returns c = early _ _ _ _ _ _ _ c.before.frame-refusal.ensures c.if1.true
+returns c =
+    entered _ _ _ _ _ _ _ c.frame_refusal-refusal.ensures c.if-refusal-ne0.false (was_true c.scissor_ok.ensures c.if-not-scissor_ok.false-raw)
+    (was_true c.inputs_ok.ensures c.if-not-inputs_ok.false-raw)
 
-scissor-ok-requires : tie.Need-scissor-ok-requires
-scissor-ok-requires c κs = search rules
-
-returns-2 : tie.Need-returns-2
-returns-2 c = fourth _ _ _ _ _ _ _ c.before.before.before.frame-refusal.ensures c.before.before.if1.false (was_false c.before.scissor-ok.ensures c.if2.true)
-
-inputs-ok-requires : tie.Need-inputs-ok-requires
-inputs-ok-requires c κs = search rules
-
-returns-3 : tie.Need-returns-3
-returns-3 c =
-    fifth _ _ _ _ _ _ _ c.before.before.before.before.before.frame-refusal.ensures c.before.before.before.before.if1.false (was_true c.before.before.before.scissor-ok.ensures c.before.before.if2.false)
-    (was_false c.before.inputs-ok.ensures c.if3.true)
-
-returns-4 : tie.Need-returns-4
-returns-4 c =
-    entered _ _ _ _ _ _ _ c.before.before.before.before.before.frame-refusal.ensures c.before.before.before.before.if1.false (was_true c.before.before.before.scissor-ok.ensures c.before.before.if2.false)
-    (was_true c.before.inputs-ok.ensures c.if3.false)
-
-pub entry-refusal-spec : {M : Type 1} → statement M
-entry-refusal-spec =
+pub entry_refusal_spec : {M : Type 1} → statement M
+entry_refusal_spec =
     tie.close
     (tie.spec
-    frame-refusal-requires
-    returns
-    scissor-ok-requires
-    returns-2
-    inputs-ok-requires
-    returns-3
-    returns-4)
+    frame_refusal-refusal-requires
+    returns-then-refusal-ne0
+    scissor_ok-requires
+    returns-then-not-scissor_ok
+    inputs_ok-requires
+    returns-then-not-inputs_ok
+    returns)

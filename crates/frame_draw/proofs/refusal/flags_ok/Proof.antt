@@ -8,43 +8,43 @@ use Rattle.frame_draw.proofs.Refusals.{flags_stop, flags_next, flags_done}
 use Rattle.frame_draw.proofs.refusal.flags_ok.Statement.{statement}
 use Rattle.frame_draw.proofs.refusal.flags_ok.Tie as tie
 
-abbrev invariant-loop : tie.invariant-loop
+abbrev invariant-loop : tie.invariant-loop-i
 invariant-loop present i₀ i = flags_ok (drop i present) ≡ flags_ok present
 
-abbrev decreases-loop : tie.decreases-loop
+abbrev decreases-loop : tie.decreases-loop-i
 decreases-loop present i₀ i = length present - i
 
-loop-holds : tie.Need-loop-init invariant-loop decreases-loop
-loop-holds c = refl
+loop-i-init : tie.Need-loop-i-init invariant-loop decreases-loop
+loop-i-init c = refl
 
-shared-slice-read-flag : tie.Need-shared-slice-read-flag invariant-loop decreases-loop
-shared-slice-read-flag c = omega arith
+bounds-present-i : tie.Need-bounds-present-i invariant-loop decreases-loop
+bounds-present-i c = omega arith
+
+returns-then-flag-gt1 : tie.Need-returns-then-flag-gt1 invariant-loop decreases-loop
+returns-then-flag-gt1 c = flags_stop _ c.loop-i.invariant c.loop-i-test.true c.if-flag-gt1.true
+
+overflow_add-i : tie.Need-overflow_add-i invariant-loop decreases-loop
+overflow_add-i c = omega arith
+
+loop-i-smaller : tie.Need-loop-i-smaller invariant-loop decreases-loop
+loop-i-smaller c = omega arith
+
+loop-i-preserved : tie.Need-loop-i-preserved invariant-loop decreases-loop
+loop-i-preserved c = flags_next _ c.loop-i.invariant c.loop-i-test.true c.if-flag-gt1.false
 
 returns : tie.Need-returns invariant-loop decreases-loop
-returns c = flags_stop _ c.before.before.before.loop.invariant c.before.before.loop-test.true c.if1.true
+returns c = flags_done _ c.loop-i.invariant c.loop-i-test.false
 
-add-i : tie.Need-overflow-add-i invariant-loop decreases-loop
-add-i c = omega arith
-
-loop-less : tie.Need-loop-smaller invariant-loop decreases-loop
-loop-less c = omega arith
-
-loop-again : tie.Need-loop-preserved invariant-loop decreases-loop
-loop-again c = flags_next _ c.before.before.before.loop.invariant c.before.before.loop-test.true c.if1.false
-
-returns-2 : tie.Need-returns-2 invariant-loop decreases-loop
-returns-2 c = flags_done _ c.before.loop.invariant c.loop-test.false
-
-pub flags-ok-spec : {M : Type 1} → statement M
-flags-ok-spec =
+pub flags_ok_spec : {M : Type 1} → statement M
+flags_ok_spec =
     tie.close
     (tie.spec
     invariant-loop
     decreases-loop
-    loop-holds
-    shared-slice-read-flag
-    returns
-    add-i
-    loop-less
-    loop-again
-    returns-2)
+    loop-i-init
+    bounds-present-i
+    returns-then-flag-gt1
+    overflow_add-i
+    loop-i-smaller
+    loop-i-preserved
+    returns)

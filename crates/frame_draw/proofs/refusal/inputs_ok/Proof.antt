@@ -7,36 +7,36 @@ use borrow.Author.Rules.{rules}
 use Rattle.frame_draw.proofs.refusal.inputs_ok.Statement.{statement}
 use Rattle.frame_draw.proofs.refusal.inputs_ok.Tie as tie
 
+returns-then-count-gt-VERTICES : tie.Need-returns-then-count-gt-VERTICES
+unfolding inputs_ok
+returns-then-count-gt-VERTICES c = stops _ (lt-leb _ _ c.if-count-gt-VERTICES.true)
+
+overflow_mul-count : tie.Need-overflow_mul-count
+overflow_mul-count c = search rules
+
+returns-then-vertices-count : tie.Need-returns-then-vertices-count
+unfolding inputs_ok
+returns-then-vertices-count c = goes_on (le-leb _ _ c.if-count-gt-VERTICES.false) (stops _ (ne_eqb _ _ c.if-vertices-count.true))
+
+flags_ok-requires : tie.Need-flags_ok-requires
+flags_ok-requires c κs = search rules
+
+returns-then-not-flags_ok : tie.Need-returns-then-not-flags_ok
+unfolding inputs_ok
+returns-then-not-flags_ok c = goes_on (le-leb _ _ c.if-count-gt-VERTICES.false) (goes_on (eq-eqb _ _ c.if-vertices-count.false) (stops _ (was_false c.flags_ok.ensures c.if-not-flags_ok.true-raw)))
+
+returns-then-indices-ne0 : tie.Need-returns-then-indices-ne0
+unfolding inputs_ok
+returns-then-indices-ne0 c =
+    goes_on (le-leb _ _ c.if-count-gt-VERTICES.false) (goes_on (eq-eqb _ _ c.if-vertices-count.false)
+    (goes_on (was_true c.flags_ok.ensures c.if-not-flags_ok.false-raw) (stops _ (ne_eqb _ _ c.if-indices-ne0.true))))
+
 returns : tie.Need-returns
 unfolding inputs_ok
-returns c = stops _ (lt-leb _ _ c.if1.true)
+returns c =
+    goes_on (le-leb _ _ c.if-count-gt-VERTICES.false) (goes_on (eq-eqb _ _ c.if-vertices-count.false)
+    (goes_on (was_true c.flags_ok.ensures c.if-not-flags_ok.false-raw) (goes_on (eq-eqb _ _ c.if-indices-ne0.false) refl)))
 
-mul-if2 : tie.Need-overflow-mul-if2
-mul-if2 c = search rules
-
-returns-2 : tie.Need-returns-2
-unfolding inputs_ok
-returns-2 c = goes_on (le-leb _ _ c.before.if1.false) (stops _ (ne_eqb _ _ c.if2.true))
-
-flags-ok-requires : tie.Need-flags-ok-requires
-flags-ok-requires c κs = search rules
-
-returns-3 : tie.Need-returns-3
-unfolding inputs_ok
-returns-3 c = goes_on (le-leb _ _ c.before.before.before.if1.false) (goes_on (eq-eqb _ _ c.before.before.if2.false) (stops _ (was_false c.before.flags-ok.ensures c.if3.true)))
-
-returns-4 : tie.Need-returns-4
-unfolding inputs_ok
-returns-4 c =
-    goes_on (le-leb _ _ c.before.before.before.before.if1.false) (goes_on (eq-eqb _ _ c.before.before.before.if2.false)
-    (goes_on (was_true c.before.before.flags-ok.ensures c.before.if3.false) (stops _ (ne_eqb _ _ c.if4.true))))
-
-returns-5 : tie.Need-returns-5
-unfolding inputs_ok
-returns-5 c =
-    goes_on (le-leb _ _ c.before.before.before.before.if1.false) (goes_on (eq-eqb _ _ c.before.before.before.if2.false)
-    (goes_on (was_true c.before.before.flags-ok.ensures c.before.if3.false) (goes_on (eq-eqb _ _ c.if4.false) refl)))
-
-pub inputs-ok-spec : {M : Type 1} → statement M
-inputs-ok-spec =
-    tie.close (tie.spec returns mul-if2 returns-2 flags-ok-requires returns-3 returns-4 returns-5)
+pub inputs_ok_spec : {M : Type 1} → statement M
+inputs_ok_spec =
+    tie.close (tie.spec returns-then-count-gt-VERTICES overflow_mul-count returns-then-vertices-count flags_ok-requires returns-then-not-flags_ok returns-then-indices-ne0 returns)
