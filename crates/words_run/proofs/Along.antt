@@ -1,6 +1,6 @@
 -- The loop along a run: the entries written so far, the place of the next pixel, and the count, whose rest is that of the answers left. Assumes nothing.
-use Prim.Native.Nat.{ℕ, zero, suc, ◌+◌, ◌-◌, ◌*◌, ◌/◌, ◌%◌, ◌≤◌, ◌<◌}
-use mathlib.Core.Path.{◌≡◌, sym, ap, subst, ◌∙◌}
+use Prim.Native.Nat.{ℕ, ◌+◌, ◌-◌, ◌*◌, ◌/◌, ◌%◌, ◌≤◌, ◌<◌}
+use mathlib.Core.Path.{◌≡◌, ap, subst, ◌∙◌}
 use native.Mathlib.Omega.{arith}
 use Rattle.words_read.specs.Read.{WordAnswer}
 use Rattle.words_run.specs.Run.{answers_from, one_if, count_of}

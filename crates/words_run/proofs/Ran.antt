@@ -1,7 +1,7 @@
 -- A run from its parts: what each part wrote is the single answers of its pixels, and the parts together are the run. Assumes nothing.
 use Prim.Native.Nat.{ℕ, zero, suc, ◌+◌, ◌-◌, ◌*◌, ◌≤◌, ◌<◌, min}
 use mathlib.Core.Path.{◌≡◌, refl, sym, ap, subst, ◌∙◌}
-use mathlib.Core.Bool.{Bool, true, false, cond}
+use mathlib.Core.Bool.{true, false, cond}
 use mathlib.Core.List.{List}
 use native.Mathlib.Omega.{arith}
 use borrow.Author.Tests.{eqb-true}
@@ -14,7 +14,7 @@ use Rattle.frame.specs.Checks.{frame_refusal}
 use Rattle.frame.proofs.Fits.{accepted}
 use Rattle.words_run.specs.declared.Run.TheVariants.{Read, Refused}
 use Rattle.words_read.specs.Read.{ReadArgs, WordAnswer, writer_of, read_answer}
-use Rattle.words_run.specs.Run.{read_at, answers_from, one_if, count_of, RunAnswer, run_means, run_by, run_answer}
+use Rattle.words_run.specs.Run.{read_at, answers_from, one_if, count_of, run_means, run_by, run_answer}
 use Rattle.words_run.specs.Entries.{Entries, entries_of, Matched, Wrote, refused_by, answer_in}
 use Rattle.words_read.proofs.Reading.{read_refused, eighth, ninth}
 use Rattle.words_run.proofs.Entries.{wrote_as, wrote-both}

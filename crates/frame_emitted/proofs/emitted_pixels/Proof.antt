@@ -8,63 +8,53 @@ use Rattle.frame_emitted.proofs.emitted_pixels.Tie as tie
 accept-requires : tie.Need-accept-requires
 accept-requires c κs = search rules
 
-enum-known-number : tie.Need-enum-known-number
-enum-known-number c = search rules
+enum_known-number : tie.Need-enum_known-number
+enum_known-number c = search rules
 
-enum-known-combiner : tie.Need-enum-known-combiner
-enum-known-combiner c = search rules
+enum_known-combiner : tie.Need-enum_known-combiner
+enum_known-combiner c = search rules
 
-returns : tie.Need-returns
-returns c =
-    let t = c.before.before in
-    let p = t.before.before in
-    run-unequal _ _ _ _ _ p.accept.ensures t.combiner.given.1 _ _ _ c.if1.true
+returns-then-pixels-masks : tie.Need-returns-then-pixels-masks
+returns-then-pixels-masks c =
+    run-unequal _ _ _ _ _ c.accept.ensures c.in-With.is _ _ _ c.if-pixels-masks.true
 
-list-from-requires : tie.Need-list-from-requires
-list-from-requires c κs =
-    let e = c.before.before in
-    let t = e.before.before in
-    let p = t.before.before in
-    let a = p.before.before.before.before.before.before.before.before.before.args in
+list_from-emitted-requires : tie.Need-list_from-emitted-requires
+list_from-emitted-requires c κs =
+    let a = c.args in
     let y = listable (draw_args a.mode a.uniform a.cull a.scissor a.geometry a.vertices.now a.present.now a.indices.now) _ _ _ _
-    p.accept.ensures t.combiner.given.1 in
-    (e.if1.false, (y.0, y.1))
+    c.accept.ensures c.in-With.is in
+    (c.if-pixels-masks.false, (y.0, y.1))
 
-slots-before-requires : tie.Need-slots-before-requires
-slots-before-requires c κs = search rules
+slots_before-listed-requires : tie.Need-slots_before-listed-requires
+slots_before-listed-requires c κs = search rules
 
-returns-2 : tie.Need-returns-2
-returns-2 c =
-    let p = c.before.before.before in
-    run-refused _ _ _ _ _ p.accept.ensures c.before.number.given.1 _ _ _
+returns-in-Refused : tie.Need-returns-in-Refused
+returns-in-Refused c =
+    run-refused _ _ _ _ _ c.accept.ensures c.in-Refused.is _ _ _
 
-same_length : tie.Need-same-length
-same_length c = search rules
+shape_of-pixels : tie.Need-shape_of-pixels
+shape_of-pixels c = search rules
 
-same-length-2 : tie.Need-same-length-2
-same-length-2 c = search rules
+shape_of-masks : tie.Need-shape_of-masks
+shape_of-masks c = search rules
 
-returns-3 : tie.Need-returns-3
-returns-3 c =
-    let l = c.before.before.before.before.before in
-    let e = l.before.before.before in
-    let t = e.before.before in
-    let p = t.before.before in
-    let a = p.before.before.before.before.before.before.before.before.before.args in
+returns-else-pixels-masks : tie.Need-returns-else-pixels-masks
+returns-else-pixels-masks c =
+    let a = c.args in
     run-accepted (draw_args a.mode a.uniform a.cull a.scissor a.geometry a.vertices.now a.present.now a.indices.now) _ _ _ _
-    p.accept.ensures t.combiner.given.1 l.list-from.ensures _ e.if1.false c.slots-before.ensures
+    c.accept.ensures c.in-With.is c.list_from-emitted.ensures _ c.if-pixels-masks.false c.slots_before-listed.ensures
 
-pub emitted-pixels-spec : {M : Type 1} → statement M
-emitted-pixels-spec =
+pub emitted_pixels_spec : {M : Type 1} → statement M
+emitted_pixels_spec =
     tie.close
     (tie.spec
     accept-requires
-    enum-known-number
-    enum-known-combiner
-    returns
-    list-from-requires
-    slots-before-requires
-    returns-2
-    same_length
-    same-length-2
-    returns-3)
+    enum_known-number
+    enum_known-combiner
+    returns-then-pixels-masks
+    list_from-emitted-requires
+    slots_before-listed-requires
+    returns-in-Refused
+    shape_of-pixels
+    shape_of-masks
+    returns-else-pixels-masks)

@@ -5,36 +5,32 @@ use Rattle.frame_emitted.proofs.Slots.{run-listed}
 use Rattle.frame_emitted.proofs.list_from.Statement.{statement}
 use Rattle.frame_emitted.proofs.list_from.Tie as tie
 
-list-by-requires : tie.Need-list-by-requires
-list-by-requires c κs = search rules
+list_by-count-requires : tie.Need-list_by-count-requires
+list_by-count-requires c κs = search rules
 
-slots-before-requires : tie.Need-slots-before-requires
-slots-before-requires c κs = search rules
+slots_before-listed-requires : tie.Need-slots_before-listed-requires
+slots_before-listed-requires c κs = search rules
 
 clear-requires : tie.Need-clear-requires
 clear-requires c κs = search rules
 
-same_length : tie.Need-same-length
-same_length c = search rules
+shape_of-pixels : tie.Need-shape_of-pixels
+shape_of-pixels c = search rules
 
-same-length-2 : tie.Need-same-length-2
-same-length-2 c = search rules
+shape_of-masks : tie.Need-shape_of-masks
+shape_of-masks c = search rules
 
 returns : tie.Need-returns
 returns c =
-    let z = c.before.before.before.before in
-    let b = z.before.before.before in
-    let l = b.before.before.before.before.before in
-    let s = l.before.before.before.before.before.before.before.before in
-    run-listed _ s.requires.0 refl s.requires.1.1.1 l.list-by.ensures b.slots-before.ensures z.clear.ensures
+    run-listed _ c.requires.0 refl c.requires.1.1.1 c.list_by-count.ensures c.slots_before-listed.ensures c.clear.ensures
 
-pub list-from-spec : {M : Type 1} → statement M
-list-from-spec =
+pub list_from_spec : {M : Type 1} → statement M
+list_from_spec =
     tie.close
     (tie.spec
-    list-by-requires
-    slots-before-requires
+    list_by-count-requires
+    slots_before-listed-requires
     clear-requires
-    same_length
-    same-length-2
+    shape_of-pixels
+    shape_of-masks
     returns)

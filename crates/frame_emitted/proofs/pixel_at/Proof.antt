@@ -6,49 +6,44 @@ use Rattle.frame_emitted.proofs.Slots.{found, there, past}
 use Rattle.frame_emitted.proofs.pixel_at.Statement.{statement}
 use Rattle.frame_emitted.proofs.pixel_at.Tie as tie
 
-count-past-requires : tie.Need-count-past-requires
-count-past-requires c κs = search rules
+count_past-requires : tie.Need-count_past-requires
+count_past-requires c κs = search rules
 
-slice-aggregate-list-by : tie.Need-slice-aggregate-list-by
-slice-aggregate-list-by c = search rules
+slice_bounds-list_by-end : tie.Need-slice_bounds-list_by-end
+slice_bounds-list_by-end c = search rules
 
-slice-aggregate-list-by-2 : tie.Need-slice-aggregate-list-by-2
-slice-aggregate-list-by-2 c = search rules
+slice_bounds-list_by-end-2 : tie.Need-slice_bounds-list_by-end-2
+slice_bounds-list_by-end-2 c = search rules
 
-list-by-requires : tie.Need-list-by-requires
-list-by-requires c κs = search rules
+list_by-count-requires : tie.Need-list_by-count-requires
+list_by-count-requires c κs = search rules
+
+returns-then-count-k : tie.Need-returns-then-count-k
+returns-then-count-k c =
+    (past _ refl c.count_past.ensures c.requires.1.1 c.list_by-count.ensures c.if-count-k.true, tt)
+
+bounds-pixels-0 : tie.Need-bounds-pixels-0
+bounds-pixels-0 c = search rules
+
+bounds-masks-0 : tie.Need-bounds-masks-0
+bounds-masks-0 c = search rules
 
 returns : tie.Need-returns
 returns c =
-    let l = c.before.before.before in
-    let p = l.before.before.before in
-    let s = p.before.before.before.before in
-    (past _ refl p.count_past.ensures s.requires.1.1 l.list-by.ensures c.if1.true, tt)
-
-array-read-t25 : tie.Need-array-read-t25
-array-read-t25 c = search rules
-
-array-read-t28 : tie.Need-array-read-t28
-array-read-t28 c = search rules
-
-returns-2 : tie.Need-returns-2
-returns-2 c =
-    let l = c.before.before.before in
-    let p = l.before.before.before in
-    let s = p.before.before.before.before in (
-      found _ refl p.count_past.ensures s.requires.1.1 l.list-by.ensures (omega arith) (omega (arith, c.if1.false)),
-      there _ refl p.count_past.ensures s.requires.1.1 l.list-by.ensures (omega (arith, c.if1.false)),
+(
+      found _ refl c.count_past.ensures c.requires.1.1 c.list_by-count.ensures (omega arith) (omega (arith, c.if-count-k.false)),
+      there _ refl c.count_past.ensures c.requires.1.1 c.list_by-count.ensures (omega (arith, c.if-count-k.false)),
     )
 
-pub pixel-at-spec : {M : Type 1} → statement M
-pixel-at-spec =
+pub pixel_at_spec : {M : Type 1} → statement M
+pixel_at_spec =
     tie.close
     (tie.spec
-    count-past-requires
-    slice-aggregate-list-by
-    slice-aggregate-list-by-2
-    list-by-requires
-    returns
-    array-read-t25
-    array-read-t28
-    returns-2)
+    count_past-requires
+    slice_bounds-list_by-end
+    slice_bounds-list_by-end-2
+    list_by-count-requires
+    returns-then-count-k
+    bounds-pixels-0
+    bounds-masks-0
+    returns)

@@ -3,11 +3,11 @@ use Rattle.words_run.proofs.Answers.{halves, odd}
 use Rattle.words_run.proofs.is_matched.Statement.{statement}
 use Rattle.words_run.proofs.is_matched.Tie as tie
 
+returns-then-words-ne0 : tie.Need-returns-then-words-ne0
+returns-then-words-ne0 c = odd _ _ c.if-words-ne0.true
+
 returns : tie.Need-returns
-returns c = odd _ _ c.if1.true
+returns c = halves _ _ c.if-words-ne0.false
 
-returns-2 : tie.Need-returns-2
-returns-2 c = halves _ _ c.if1.false
-
-pub is-matched-spec : {M : Type 1} → statement M
-is-matched-spec = tie.close (tie.spec returns returns-2)
+pub is_matched_spec : {M : Type 1} → statement M
+is_matched_spec = tie.close (tie.spec returns-then-words-ne0 returns)

@@ -8,8 +8,8 @@ use borrow.Author.Rules.{rules}
 use Rattle.words_run.proofs.read_there.Statement.{statement}
 use Rattle.words_run.proofs.read_there.Tie as tie
 
-writer-requires : tie.Need-writer-requires
-writer-requires c κs = search rules
+writer-writer-requires : tie.Need-writer-writer-requires
+writer-writer-requires c κs = search rules
 
 supported-requires : tie.Need-supported-requires
 supported-requires c κs = search rules
@@ -17,50 +17,47 @@ supported-requires c κs = search rules
 fill-requires : tie.Need-fill-requires
 fill-requires c κs = search rules
 
-same_length : tie.Need-same-length
-same_length c = search rules
+shape_of-words-then-not-supported : tie.Need-shape_of-words-then-not-supported
+shape_of-words-then-not-supported c = search rules
 
-same-length-2 : tie.Need-same-length-2
-same-length-2 c = search rules
+shape_of-numbers-then-not-supported : tie.Need-shape_of-numbers-then-not-supported
+shape_of-numbers-then-not-supported c = search rules
+
+returns-then-not-supported : tie.Need-returns-then-not-supported
+returns-then-not-supported c =
+    let a = c.args in
+    let r = read_args a.first a.fmt a.siz a.rgb_dither a.encoding in
+    there-ninth r _ _ _ c.requires.0 c.requires.1.0.0 (was_false (c.supported.ensures ∙ ap supported_of c.writer-writer.ensures) c.if-not-supported.true-raw) c.fill.ensures
+
+read_entries-requires : tie.Need-read_entries-requires
+read_entries-requires c κs =
+    let a = c.args in
+    let r = read_args a.first a.fmt a.siz a.rgb_dither a.encoding in
+    readable-there r _ _ _ c.requires.0 c.requires.1.0.0 c.requires.1.0.1 c.requires.1.1
+
+shape_of-words : tie.Need-shape_of-words
+shape_of-words c = search rules
+
+shape_of-numbers : tie.Need-shape_of-numbers
+shape_of-numbers c = search rules
 
 returns : tie.Need-returns
 returns c =
-    let s = c.before.before.before.before.before.before.before.before.before.before.before.before.before.before.before in
-    let a = s.args in
-    let r = read_args a.first a.fmt a.siz a.rgb-dither a.encoding in
-    there-ninth r _ _ _ s.requires.0 s.requires.1.0.0 (was_false (c.before.before.before.before.before.before.before.before.supported.ensures ∙ ap supported_of c.before.before.before.before.before.before.before.before.before.writer.ensures) c.before.before.before.before.before.before.before.if1.true) c.before.before.before.before.fill.ensures
+    let a = c.args in
+    let r = read_args a.first a.fmt a.siz a.rgb_dither a.encoding in
+    there-read r _ _ _ c.requires.0 c.requires.1.0.0 (was_true (c.supported.ensures ∙ ap supported_of c.writer-writer.ensures) c.if-not-supported.false-raw) c.read_entries.ensures
 
-read-entries-requires : tie.Need-read-entries-requires
-read-entries-requires c κs =
-    let s = c.before.before.before.before.before.before.before.before.before.before in
-    let a = s.args in
-    let r = read_args a.first a.fmt a.siz a.rgb-dither a.encoding in
-    readable-there r _ _ _ s.requires.0 s.requires.1.0.0 s.requires.1.0.1 s.requires.1.1
-
-same-length-3 : tie.Need-same-length-3
-same-length-3 c = search rules
-
-same-length-4 : tie.Need-same-length-4
-same-length-4 c = search rules
-
-returns-2 : tie.Need-returns-2
-returns-2 c =
-    let s = c.before.before.before.before.before.before.before.before.before.before.before.before.before.before.before in
-    let a = s.args in
-    let r = read_args a.first a.fmt a.siz a.rgb-dither a.encoding in
-    there-read r _ _ _ s.requires.0 s.requires.1.0.0 (was_true (c.before.before.before.before.before.before.before.before.supported.ensures ∙ ap supported_of c.before.before.before.before.before.before.before.before.before.writer.ensures) c.before.before.before.before.before.before.before.if1.false) c.before.before.before.before.read-entries.ensures
-
-pub read-there-spec : {M : Type 1} → statement M
-read-there-spec =
+pub read_there_spec : {M : Type 1} → statement M
+read_there_spec =
     tie.close
     (tie.spec
-    writer-requires
+    writer-writer-requires
     supported-requires
     fill-requires
-    same_length
-    same-length-2
-    returns
-    read-entries-requires
-    same-length-3
-    same-length-4
-    returns-2)
+    shape_of-words-then-not-supported
+    shape_of-numbers-then-not-supported
+    returns-then-not-supported
+    read_entries-requires
+    shape_of-words
+    shape_of-numbers
+    returns)

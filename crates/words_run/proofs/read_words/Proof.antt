@@ -9,81 +9,78 @@ use borrow.Author.Rules.{rules}
 use Rattle.words_run.proofs.read_words.Statement.{statement}
 use Rattle.words_run.proofs.read_words.Tie as tie
 
-is-matched-requires : tie.Need-is-matched-requires
-is-matched-requires c κs = search rules
+is_matched-requires : tie.Need-is_matched-requires
+is_matched-requires c κs = search rules
 
-returns : tie.Need-returns
-returns c =
-    let s = c.before.before.before.before.before.before.before in
-    let a = s.args in
-    let r = read_args a.first a.fmt a.siz a.rgb-dither a.encoding in
-    (run_unmatched r _ _ _ (was_false c.before.is-matched.ensures c.if1.true), lit≤ tt)
+returns-then-not-is_matched : tie.Need-returns-then-not-is_matched
+returns-then-not-is_matched c =
+    let a = c.args in
+    let r = read_args a.first a.fmt a.siz a.rgb_dither a.encoding in
+    (run_unmatched r _ _ _ (was_false c.is_matched.ensures c.if-not-is_matched.true-raw), lit≤ tt)
 
-frame-refusal-requires : tie.Need-frame-refusal-requires
-frame-refusal-requires c κs = search rules
+frame_refusal-refusal-requires : tie.Need-frame_refusal-refusal-requires
+frame_refusal-refusal-requires c κs = search rules
 
 fill-requires : tie.Need-fill-requires
 fill-requires c κs =
-    let a = c.before.before.before.before.before.before.before.before.before.before.before.args in
-    (omega arith, matched_by a.words.now a.numbers.now (was_true c.before.before.before.before.before.is-matched.ensures c.before.before.before.before.if1.false))
+    let a = c.args in
+    (omega arith, matched_by a.words.now a.numbers.now (was_true c.is_matched.ensures c.if-not-is_matched.false-raw))
 
-same_length : tie.Need-same-length
-same_length c = search rules
+shape_of-words-then-refusal-ne0 : tie.Need-shape_of-words-then-refusal-ne0
+shape_of-words-then-refusal-ne0 c = search rules
 
-same-length-2 : tie.Need-same-length-2
-same-length-2 c = search rules
+shape_of-numbers-then-refusal-ne0 : tie.Need-shape_of-numbers-then-refusal-ne0
+shape_of-numbers-then-refusal-ne0 c = search rules
 
-returns-2 : tie.Need-returns-2
-returns-2 c =
-    let s = c.before.before.before.before.before.before.before.before.before.before.before.before.before.before.before.before in
-    let a = s.args in
-    let r = read_args a.first a.fmt a.siz a.rgb-dither a.encoding in
-    (run-refused r _ _ _ (was_true c.before.before.before.before.before.before.before.before.before.before.is-matched.ensures c.before.before.before.before.before.before.before.before.before.if1.false) c.before.before.before.before.before.before.before.before.frame-refusal.ensures c.before.before.before.before.before.before.before.if2.true c.before.before.before.before.fill.ensures, tt)
+returns-then-refusal-ne0 : tie.Need-returns-then-refusal-ne0
+returns-then-refusal-ne0 c =
+    let a = c.args in
+    let r = read_args a.first a.fmt a.siz a.rgb_dither a.encoding in
+    (run-refused r _ _ _ (was_true c.is_matched.ensures c.if-not-is_matched.false-raw) c.frame_refusal-refusal.ensures c.if-refusal-ne0.true c.fill.ensures, tt)
 
-entries-there-requires : tie.Need-entries-there-requires
-entries-there-requires c κs = search rules
+entries_there-there-requires : tie.Need-entries_there-there-requires
+entries_there-there-requires c κs = search rules
 
-read-there-requires : tie.Need-read-there-requires
-read-there-requires c κs =
-    let a = c.before.before.before.before.before.before.before.before.before.before.before.before.args in
-    let e = c.before.before.entries-there.ensures in (
-      sym c.before.before.before.before.frame-refusal.ensures ∙ c.before.before.before.if2.false,
-      (((λ h. omega (arith, e)), omega (arith, e)), matched_by a.words.now a.numbers.now (was_true c.before.before.before.before.before.before.is-matched.ensures c.before.before.before.before.before.if1.false)),
+read_there-read-requires : tie.Need-read_there-read-requires
+read_there-read-requires c κs =
+    let a = c.args in
+    let e = c.entries_there-there.ensures in (
+      sym c.frame_refusal-refusal.ensures ∙ c.if-refusal-ne0.false,
+      (((λ h. omega (arith, e)), omega (arith, e)), matched_by a.words.now a.numbers.now (was_true c.is_matched.ensures c.if-not-is_matched.false-raw)),
     )
 
 fill-requires-2 : tie.Need-fill-requires-2
 fill-requires-2 c κs = search rules
 
-same-length-3 : tie.Need-same-length-3
-same-length-3 c = search rules
+shape_of-words : tie.Need-shape_of-words
+shape_of-words c = search rules
 
-same-length-4 : tie.Need-same-length-4
-same-length-4 c = search rules
+shape_of-numbers : tie.Need-shape_of-numbers
+shape_of-numbers c = search rules
 
-returns-3 : tie.Need-returns-3
-returns-3 c =
-    let s = c.before.before.before.before.before.before.before.before.before.before.before.before.before.before.before.before.before.before.before.before.before.before.before.before in
-    let a = s.args in
-    let r = read_args a.first a.fmt a.siz a.rgb-dither a.encoding in (
-      run-read r _ _ _ (was_true c.before.before.before.before.before.before.before.before.before.before.before.before.before.before.before.before.before.before.is-matched.ensures c.before.before.before.before.before.before.before.before.before.before.before.before.before.before.before.before.before.if1.false) (sym c.before.before.before.before.before.before.before.before.before.before.before.before.before.before.before.before.frame-refusal.ensures ∙ c.before.before.before.before.before.before.before.before.before.before.before.before.before.before.before.if2.false)
-          c.before.before.before.before.before.before.before.before.before.before.before.before.before.before.entries-there.ensures c.before.before.before.before.before.before.before.before.before.before.before.read-there.ensures c.before.before.before.before.fill2.ensures,
+returns : tie.Need-returns
+returns c =
+    let a = c.args in
+    let r = read_args a.first a.fmt a.siz a.rgb_dither a.encoding in (
+      run-read r _ _ _ (was_true c.is_matched.ensures c.if-not-is_matched.false-raw) (sym c.frame_refusal-refusal.ensures ∙ c.if-refusal-ne0.false)
+          c.entries_there-there.ensures c.read_there-read.ensures c.fill-2.ensures,
       tt,
     )
 
-pub read-words-spec : {M : Type 1} → statement M
-read-words-spec =
+pub read_words_spec : {M : Type 1} → statement M
+read_words_spec =
     tie.close
     (tie.spec
-    is-matched-requires
-    returns
-    frame-refusal-requires
+    is_matched-requires
+    returns-then-not-is_matched
+    frame_refusal-refusal-requires
     fill-requires
-    same_length
-    same-length-2
-    returns-2
-    entries-there-requires
-    read-there-requires
+    shape_of-words-then-refusal-ne0
+    shape_of-numbers-then-refusal-ne0
+    returns-then-refusal-ne0
+    entries_there-there-requires
+    read_there-read-requires
     fill-requires-2
-    same-length-3
-    same-length-4
-    returns-3)
+    shape_of-words
+    shape_of-numbers
+    returns)

@@ -5,17 +5,17 @@ use borrow.Author.Rules.{rules}
 use Rattle.words_run.proofs.entry.next_place.Statement.{statement}
 use Rattle.words_run.proofs.entry.next_place.Tie as tie
 
-add-x : tie.Need-overflow-add-x
-add-x c = search rules
+overflow_add-x : tie.Need-overflow_add-x
+overflow_add-x c = search rules
+
+returns-then-x-width : tie.Need-returns-then-x-width
+returns-then-x-width c = same_row _ _ _ c.if-x-width.true
+
+overflow_add-result : tie.Need-overflow_add-result
+overflow_add-result c = omega (arith, c.requires.1, row_le c.args.place.y c.args.width (omega (arith, c.requires.0)))
 
 returns : tie.Need-returns
-returns c = same_row _ _ _ c.if1.true
+returns c = next_row _ _ _ c.requires.0 c.if-x-width.false
 
-add-t6 : tie.Need-overflow-add-t6
-add-t6 c = let s = c.before.before in omega (arith, s.requires.1, row_le s.args.place.y s.args.width (omega (arith, s.requires.0)))
-
-returns-2 : tie.Need-returns-2
-returns-2 c = next_row _ _ _ c.before.before.requires.0 c.if1.false
-
-pub next-place-spec : {M : Type 1} → statement M
-next-place-spec = tie.close (tie.spec add-x returns add-t6 returns-2)
+pub next_place_spec : {M : Type 1} → statement M
+next_place_spec = tie.close (tie.spec overflow_add-x returns-then-x-width overflow_add-result returns)

@@ -5,39 +5,39 @@ use borrow.Author.Rules.{rules}
 use Rattle.words_run.proofs.entry.put_entry.Statement.{statement}
 use Rattle.words_run.proofs.entry.put_entry.Tie as tie
 
-mul_at : tie.Need-overflow-mul-at
-mul_at c = search rules
+overflow_mul-at : tie.Need-overflow_mul-at
+overflow_mul-at c = search rules
 
-add-next : tie.Need-overflow-add-next
-add-next c = search rules
+overflow_add-next : tie.Need-overflow_add-next
+overflow_add-next c = search rules
 
-slice-write-words : tie.Need-slice-write-words
-slice-write-words c = search rules
+bounds-words-at : tie.Need-bounds-words-at
+bounds-words-at c = search rules
 
-slice-write-words-2 : tie.Need-slice-write-words-2
-slice-write-words-2 c = simp length-set (omega arith)
+bounds-words-next : tie.Need-bounds-words-next
+bounds-words-next c = simp length-set (omega arith)
 
-slice-write-numbers : tie.Need-slice-write-numbers
-slice-write-numbers c = search rules
+bounds-numbers-i : tie.Need-bounds-numbers-i
+bounds-numbers-i c = search rules
 
-same_length : tie.Need-same-length
-same_length c = search rules
+shape_of-words : tie.Need-shape_of-words
+shape_of-words c = search rules
 
-same-length-2 : tie.Need-same-length-2
-same-length-2 c = search rules
+shape_of-numbers : tie.Need-shape_of-numbers
+shape_of-numbers c = search rules
 
 returns : tie.Need-returns
 returns c = search rules
 
-pub put-entry-spec : {M : Type 1} → statement M
-put-entry-spec =
+pub put_entry_spec : {M : Type 1} → statement M
+put_entry_spec =
     tie.close
     (tie.spec
-    mul_at
-    add-next
-    slice-write-words
-    slice-write-words-2
-    slice-write-numbers
-    same_length
-    same-length-2
+    overflow_mul-at
+    overflow_add-next
+    bounds-words-at
+    bounds-words-next
+    bounds-numbers-i
+    shape_of-words
+    shape_of-numbers
     returns)

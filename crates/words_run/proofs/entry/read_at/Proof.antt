@@ -5,17 +5,17 @@ use borrow.Author.Rules.{rules}
 use Rattle.words_run.proofs.entry.read_at.Statement.{statement}
 use Rattle.words_run.proofs.entry.read_at.Tie as tie
 
-read-halfword-requires : tie.Need-read-halfword-requires
-read-halfword-requires c κs = let s = c.before.before.before.before in ((s.requires.0.0, s.requires.0.1 c.if1.true), s.requires.1)
+read_halfword-requires : tie.Need-read_halfword-requires
+read_halfword-requires c κs = ((c.requires.0.0, c.requires.0.1 c.if-siz-eq2.true), c.requires.1)
+
+returns-then-siz-eq2 : tie.Need-returns-then-siz-eq2
+returns-then-siz-eq2 c = by_true _ (eq-eqb _ _ c.if-siz-eq2.true) c.read_halfword.ensures
+
+read_byte-requires : tie.Need-read_byte-requires
+read_byte-requires c κs = search rules
 
 returns : tie.Need-returns
-returns c = by_true _ (eq-eqb _ _ c.before.if1.true) c.read-halfword.ensures
+returns c = by_false _ (ne_eqb _ _ c.if-siz-eq2.false) c.read_byte.ensures
 
-read-byte-requires : tie.Need-read-byte-requires
-read-byte-requires c κs = search rules
-
-returns-2 : tie.Need-returns-2
-returns-2 c = by_false _ (ne_eqb _ _ c.before.if1.false) c.read_byte.ensures
-
-pub read-at-spec : {M : Type 1} → statement M
-read-at-spec = tie.close (tie.spec read-halfword-requires returns read-byte-requires returns-2)
+pub read_at_spec : {M : Type 1} → statement M
+read_at_spec = tie.close (tie.spec read_halfword-requires returns-then-siz-eq2 read_byte-requires returns)

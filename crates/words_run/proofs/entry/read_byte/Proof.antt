@@ -7,18 +7,18 @@ use borrow.Author.Rules.{rules}
 use Rattle.words_run.proofs.entry.read_byte.Statement.{statement}
 use Rattle.words_run.proofs.entry.read_byte.Tie as tie
 
-color-requires : tie.Need-color-requires
-color-requires c κs = search rules
+color-color-requires : tie.Need-color-color-requires
+color-color-requires c κs = search rules
+
+returns-then-x-eq0 : tie.Need-returns-then-x-eq0
+returns-then-x-eq0 c =
+    let a = c.args in
+    byte_even a.x (color_at a.colors.now a.pixel) (ap (λ (k : Colors). k.red) c.color-color.ensures) c.if-x-eq0.true
 
 returns : tie.Need-returns
 returns c =
-    let a = c.before.before.before.before.args in
-    byte_even a.x (color_at a.colors.now a.pixel) (ap (λ (k : Colors). k.red) c.before.color.ensures) c.if1.true
+    let a = c.args in
+    byte_odd a.x (color_at a.colors.now a.pixel) (ap (λ (k : Colors). k.green) c.color-color.ensures) c.if-x-eq0.false
 
-returns-2 : tie.Need-returns-2
-returns-2 c =
-    let a = c.before.before.before.before.args in
-    byte_odd a.x (color_at a.colors.now a.pixel) (ap (λ (k : Colors). k.green) c.before.color.ensures) c.if1.false
-
-pub read-byte-spec : {M : Type 1} → statement M
-read-byte-spec = tie.close (tie.spec color-requires returns returns-2)
+pub read_byte_spec : {M : Type 1} → statement M
+read_byte_spec = tie.close (tie.spec color-color-requires returns-then-x-eq0 returns)

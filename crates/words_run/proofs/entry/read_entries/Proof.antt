@@ -14,96 +14,92 @@ use Rattle.words_run.proofs.Along.{Along, along_start, along_fits, along-more, a
 use Rattle.words_run.proofs.entry.read_entries.Statement.{statement}
 use Rattle.words_run.proofs.entry.read_entries.Tie as tie
 
-abbrev invariant-loop : tie.invariant-loop
+abbrev invariant-loop : tie.invariant-loop-i
 invariant-loop width colors coverages marks first siz rgb-dither encoding words₀ numbers₀ count n₀ place₀ i₀ words numbers n place i =
     Along (λ (j : ℕ). answer_in width siz rgb-dither encoding (frame_of colors coverages marks) (first + j)) width first count (length numbers₀)
     (entries_of words₀ numbers₀) i (entries_of words numbers) n place
 
-abbrev decreases-loop : tie.decreases-loop
+abbrev decreases-loop : tie.decreases-loop-i
 decreases-loop width colors coverages marks first siz rgb-dither encoding words₀ numbers₀ count n₀ place₀ i₀ words numbers n place i =
     count - i
 
-rem-t17 : tie.Need-nonzero-rem-t17 invariant-loop decreases-loop
-rem-t17 c = omega (arith, c.before.before.before.before.before.requires.0.0)
+nonzero_rem-place : tie.Need-nonzero_rem-place invariant-loop decreases-loop
+nonzero_rem-place c = omega (arith, c.requires.0.0)
 
-div-t18 : tie.Need-nonzero-div-t18 invariant-loop decreases-loop
-div-t18 c = omega (arith, c.before.before.before.before.before.requires.0.0)
+nonzero_div-place : tie.Need-nonzero_div-place invariant-loop decreases-loop
+nonzero_div-place c = omega (arith, c.requires.0.0)
 
-loop-holds : tie.Need-loop-init invariant-loop decreases-loop
-loop-holds c = let s = c.before.before.before.before.before in along_start _ _ _ _ _ _ s.requires.0.0 s.requires.1.1
+loop-i-init : tie.Need-loop-i-init invariant-loop decreases-loop
+loop-i-init c = along_start _ _ _ _ _ _ c.requires.0.0 c.requires.1.1
 
-add-pixel : tie.Need-overflow-add-pixel invariant-loop decreases-loop
-add-pixel c = let s = c.before.before.before.before.before.before.before in omega (arith, c.loop-test.true, s.requires.0.1 (omega arith), s.requires.0.2)
+overflow_add-pixel : tie.Need-overflow_add-pixel invariant-loop decreases-loop
+overflow_add-pixel c = omega (arith, c.loop-i-test.true, c.requires.0.1 (omega arith), c.requires.0.2)
 
-read-entry-requires : tie.Need-read-entry-requires invariant-loop decreases-loop
-read-entry-requires c κs =
-    let s = c.before.before.before.before.before.before.before.before.before in
-    let m = c.before.before.before.loop.invariant.wrote.matched in
-    let t = c.before.before.loop-test.true in
-    (fit_loadable s.requires.1.0 (omega (arith, t, s.requires.0.1 (omega arith))), (omega (arith, t, s.requires.0.3, m.numbers), room m))
+read_entry-read-requires : tie.Need-read_entry-read-requires invariant-loop decreases-loop
+read_entry-read-requires c κs =
+    let m = c.loop-i.invariant.wrote.matched in
+    let t = c.loop-i-test.true in
+    (fit_loadable c.requires.1.0 (omega (arith, t, c.requires.0.1 (omega arith))), (omega (arith, t, c.requires.0.3, m.numbers), room m))
 
-add-n : tie.Need-overflow-add-n invariant-loop decreases-loop
-add-n c =
-    let s = c.before.before.before.before.before.before.before.before.before.before.before.before.before.before in
-    let a = s.args in
-    let l = c.before.before.before.before.before.before.before.before.loop in
+overflow_add-n : tie.Need-overflow_add-n invariant-loop decreases-loop
+overflow_add-n c =
+    let a = c.args in
+    let l = c.loop-i in
     let f = frame_of a.colors.now a.coverages.now a.marks.now in
-    let e = answer-here l.invariant.place a.siz a.rgb-dither a.encoding f in
-    let r = c.before.before.before.before.read-entry.ensures in
+    let e = answer-here l.invariant.place a.siz a.rgb_dither a.encoding f in
+    let r = c.read_entry-read.ensures in
     omega (
       arith,
-      along_fits _ _ _ _ _ _ c.before.before.before.before.before.before.before.loop-test.true l.invariant (r.1 ∙ ap (λ (x : WordAnswer). one_if x.number) e),
-      s.requires.0.1 (omega arith),
-      s.requires.0.2,
+      along_fits _ _ _ _ _ _ c.loop-i-test.true l.invariant (r.1 ∙ ap (λ (x : WordAnswer). one_if x.number) e),
+      c.requires.0.1 (omega arith),
+      c.requires.0.2,
     )
 
-next-place-requires : tie.Need-next-place-requires invariant-loop decreases-loop
-next-place-requires c κs =
-    let s = c.before.before.before.before.before.before.before.before.before.before.before.before.before.before in
-    let p = c.before.before.before.before.before.before.before.before.loop.invariant.place in
-    (p.inside, omega (arith, p.place, c.before.before.before.before.before.before.before.loop-test.true, s.requires.0.1 (omega arith), s.requires.0.2))
+next_place-place-requires : tie.Need-next_place-place-requires invariant-loop decreases-loop
+next_place-place-requires c κs =
+    let p = c.loop-i.invariant.place in
+    (p.inside, omega (arith, p.place, c.loop-i-test.true, c.requires.0.1 (omega arith), c.requires.0.2))
 
-add-i : tie.Need-overflow-add-i invariant-loop decreases-loop
-add-i c = omega arith
+overflow_step-i : tie.Need-overflow_step-i invariant-loop decreases-loop
+overflow_step-i c = omega arith
 
-loop-less : tie.Need-loop-smaller invariant-loop decreases-loop
-loop-less c = omega arith
+loop-i-smaller : tie.Need-loop-i-smaller invariant-loop decreases-loop
+loop-i-smaller c = omega arith
 
-loop-again : tie.Need-loop-preserved invariant-loop decreases-loop
-loop-again c =
-    let s = c.before.before.before.before.before.before.before.before.before.before.before.before.before.before.before in
-    let a = s.args in
-    let l = c.before.before.before.before.before.before.before.before.before.loop in
+loop-i-preserved : tie.Need-loop-i-preserved invariant-loop decreases-loop
+loop-i-preserved c =
+    let a = c.args in
+    let l = c.loop-i in
     let f = frame_of a.colors.now a.coverages.now a.marks.now in
-    let e = answer-here l.invariant.place a.siz a.rgb-dither a.encoding f in
-    let r = c.before.before.before.before.before.read-entry.ensures in
-    along-more _ _ _ _ _ _ c.before.before.before.before.before.before.before.before.loop-test.true l.invariant s.requires.0.3 e r.0 r.1 c.next_place.ensures
+    let e = answer-here l.invariant.place a.siz a.rgb_dither a.encoding f in
+    let r = c.read_entry-read.ensures in
+    along-more _ _ _ _ _ _ c.loop-i-test.true l.invariant c.requires.0.3 e r.0 r.1 c.next_place-place.ensures
 
-same_length : tie.Need-same-length invariant-loop decreases-loop
-same_length c = same_words c.before.before.before.before.before.before.before.requires.1.1 c.before.loop.invariant.wrote.matched
+shape_of-words : tie.Need-shape_of-words invariant-loop decreases-loop
+shape_of-words c = same_words c.requires.1.1 c.loop-i.invariant.wrote.matched
 
-same-length-2 : tie.Need-same-length-2 invariant-loop decreases-loop
-same-length-2 c = same_numbers c.before.before.before.before.before.before.before.requires.1.1 c.before.loop.invariant.wrote.matched
+shape_of-numbers : tie.Need-shape_of-numbers invariant-loop decreases-loop
+shape_of-numbers c = same_numbers c.requires.1.1 c.loop-i.invariant.wrote.matched
 
 returns : tie.Need-returns invariant-loop decreases-loop
-returns c = along_done _ _ _ _ _ _ c.loop-test.false c.before.loop.invariant
+returns c = along_done _ _ _ _ _ _ c.loop-i-test.false c.loop-i.invariant
 
-pub read-entries-spec : {M : Type 1} → statement M
-read-entries-spec =
+pub read_entries_spec : {M : Type 1} → statement M
+read_entries_spec =
     tie.close
     (tie.spec
     invariant-loop
     decreases-loop
-    rem-t17
-    div-t18
-    loop-holds
-    add-pixel
-    read-entry-requires
-    add-n
-    next-place-requires
-    add-i
-    loop-less
-    loop-again
-    same_length
-    same-length-2
+    nonzero_rem-place
+    nonzero_div-place
+    loop-i-init
+    overflow_add-pixel
+    read_entry-read-requires
+    overflow_add-n
+    next_place-place-requires
+    overflow_step-i
+    loop-i-smaller
+    loop-i-preserved
+    shape_of-words
+    shape_of-numbers
     returns)

@@ -9,60 +9,59 @@ use borrow.Author.Rules.{rules}
 use Rattle.words_run.proofs.entry.read_entry.Statement.{statement}
 use Rattle.words_run.proofs.entry.read_entry.Tie as tie
 
-shared-slice-read-mark : tie.Need-shared-slice-read-mark
-shared-slice-read-mark c = search rules
+bounds-marks-pixel : tie.Need-bounds-marks-pixel
+bounds-marks-pixel c = search rules
 
-is-readable-requires : tie.Need-is-readable-requires
-is-readable-requires c κs = search rules
+is_readable-requires : tie.Need-is_readable-requires
+is_readable-requires c κs = search rules
 
-put-entry-requires : tie.Need-put-entry-requires
-put-entry-requires c κs = search rules
+put_entry-requires : tie.Need-put_entry-requires
+put_entry-requires c κs = search rules
 
-same_length : tie.Need-same-length
-same_length c = search rules
+shape_of-words-then-not-is_readable : tie.Need-shape_of-words-then-not-is_readable
+shape_of-words-then-not-is_readable c = search rules
 
-same-length-2 : tie.Need-same-length-2
-same-length-2 c = search rules
+shape_of-numbers-then-not-is_readable : tie.Need-shape_of-numbers-then-not-is_readable
+shape_of-numbers-then-not-is_readable c = search rules
+
+returns-then-not-is_readable : tie.Need-returns-then-not-is_readable
+returns-then-not-is_readable c =
+    let a = c.args in
+    entry-refused _ _ _ _ _ _ (entries_of a.words.now a.numbers.now) a.i (was_false c.is_readable.ensures c.if-not-is_readable.true-raw)
+    c.put_entry.ensures
+
+read_at-word-requires : tie.Need-read_at-word-requires
+read_at-word-requires c κs =
+    let r = was_true c.is_readable.ensures c.if-not-is_readable.false-raw in
+    ((both_left _ _ r, marked_by_size (get_or c.args.marks.now c.args.pixel 0) r), c.requires.0)
+
+put_entry-requires-2 : tie.Need-put_entry-requires-2
+put_entry-requires-2 c κs = search rules
+
+shape_of-words : tie.Need-shape_of-words
+shape_of-words c = search rules
+
+shape_of-numbers : tie.Need-shape_of-numbers
+shape_of-numbers c = search rules
 
 returns : tie.Need-returns
 returns c =
-    let a = c.before.before.before.before.before.before.before.before.before.before.before.before.before.before.before.args in
-    entry-refused _ _ _ _ _ _ (entries_of a.words.now a.numbers.now) a.i (was_false c.before.before.before.before.before.before.before.before.is-readable.ensures c.before.before.before.before.before.before.before.if1.true)
-    c.before.before.before.before.put-entry.ensures
+    let a = c.args in
+    entry_read _ _ _ _ _ _ (entries_of a.words.now a.numbers.now) a.i (was_true c.is_readable.ensures c.if-not-is_readable.false-raw)
+    c.read_at-word.ensures c.put_entry-2.ensures
 
-read-at-requires : tie.Need-read-at-requires
-read-at-requires c κs =
-    let s = c.before.before.before.before.before.before.before.before in
-    let r = was_true c.before.is-readable.ensures c.if1.false in
-    ((both_left _ _ r, marked_by_size (get_or s.args.marks.now s.args.pixel 0) r), s.requires.0)
-
-put-entry-requires-2 : tie.Need-put-entry-requires-2
-put-entry-requires-2 c κs = search rules
-
-same-length-3 : tie.Need-same-length-3
-same-length-3 c = search rules
-
-same-length-4 : tie.Need-same-length-4
-same-length-4 c = search rules
-
-returns-2 : tie.Need-returns-2
-returns-2 c =
-    let a = c.before.before.before.before.before.before.before.before.before.before.before.before.before.before.before.before.args in
-    entry_read _ _ _ _ _ _ (entries_of a.words.now a.numbers.now) a.i (was_true c.before.before.before.before.before.before.before.before.before.is-readable.ensures c.before.before.before.before.before.before.before.before.if1.false)
-    c.before.before.before.before.before.before.before.read_at.ensures c.before.before.before.before.put-entry2.ensures
-
-pub read-entry-spec : {M : Type 1} → statement M
-read-entry-spec =
+pub read_entry_spec : {M : Type 1} → statement M
+read_entry_spec =
     tie.close
     (tie.spec
-    shared-slice-read-mark
-    is-readable-requires
-    put-entry-requires
-    same_length
-    same-length-2
-    returns
-    read-at-requires
-    put-entry-requires-2
-    same-length-3
-    same-length-4
-    returns-2)
+    bounds-marks-pixel
+    is_readable-requires
+    put_entry-requires
+    shape_of-words-then-not-is_readable
+    shape_of-numbers-then-not-is_readable
+    returns-then-not-is_readable
+    read_at-word-requires
+    put_entry-requires-2
+    shape_of-words
+    shape_of-numbers
+    returns)
