@@ -5,21 +5,21 @@ use borrow.Author.Rules.{rules}
 use Rattle.c_draw.proofs.admitted.Statement.{statement}
 use Rattle.c_draw.proofs.admitted.Tie as tie
 
-combiner-of-requires : tie.Need-combiner-of-requires
-combiner-of-requires c κs = search rules
+combiner_of-k-requires : tie.Need-combiner_of-k-requires
+combiner_of-k-requires c κs = search rules
 
-geometry-of-requires : tie.Need-geometry-of-requires
-geometry-of-requires c κs = search rules
+geometry_of-g-requires : tie.Need-geometry_of-g-requires
+geometry_of-g-requires c κs = search rules
 
 admitted-requires : tie.Need-admitted-requires
 admitted-requires c κs = search rules
 
 returns : tie.Need-returns
 returns c =
-    let a = c.before.before.before.before.before.before.args in
+    let a = c.args in
     c.admitted.ensures
-    ∙ (λ i. admitted_of (c.before.before.combiner-of.ensures i) (c.before.geometry-of.ensures i) a.vertices.now a.present.now a.indices.now)
+    ∙ (λ i. admitted_of (c.combiner_of-k.ensures i) (c.geometry_of-g.ensures i) a.vertices.now a.present.now a.indices.now)
 
-pub admitted-spec : {M : Type 1} → statement M
-admitted-spec =
-    tie.close (tie.spec combiner-of-requires geometry-of-requires admitted-requires returns)
+pub admitted_spec : {M : Type 1} → statement M
+admitted_spec =
+    tie.close (tie.spec combiner_of-k-requires geometry_of-g-requires admitted-requires returns)

@@ -7,25 +7,25 @@ use borrow.Author.Rules.{rules}
 use Rattle.c_draw.proofs.emitted.Statement.{statement}
 use Rattle.c_draw.proofs.emitted.Tie as tie
 
-enum-known-fragment : tie.Need-enum-known-fragment
-enum-known-fragment c = search rules
+enum_known-fragment : tie.Need-enum_known-fragment
+enum_known-fragment c = search rules
 
-cast-t9 : tie.Need-overflow-cast-t9
-cast-t9 c = search rules
+overflow_cast-result : tie.Need-overflow_cast-result
+overflow_cast-result c = search rules
 
-enum_told : tie.Need-enum-told
-enum_told c = search rules
+enum_told-1 : tie.Need-enum_told-1
+enum_told-1 c = search rules
 
-no-color-requires : tie.Need-no-color-requires
-no-color-requires c κs = search rules
+no_color-requires : tie.Need-no_color-requires
+no_color-requires c κs = search rules
 
-returns : tie.Need-returns
-returns c = sym (ap fragment_answer c.before.fragment.given.1)
+returns-in-Covered : tie.Need-returns-in-Covered
+returns-in-Covered c = sym (ap fragment_answer c.in-Covered.is)
 
-returns-2 : tie.Need-returns-2
+returns-in-Empty : tie.Need-returns-in-Empty
 unfolding of_bits
-returns-2 c = (λ i. record { mask = 0; rgba = c.no-color.ensures i; shade_alpha = f0 }) ∙ sym (ap fragment_answer c.before.enum_told.given.1)
+returns-in-Empty c = (λ i. record { mask = 0; rgba = c.no_color.ensures i; shade_alpha = f0 }) ∙ sym (ap fragment_answer c.in-Empty.is)
 
-pub emitted-spec : {M : Type 1} → statement M
-emitted-spec =
-    tie.close (tie.spec enum-known-fragment cast-t9 enum_told no-color-requires returns returns-2)
+pub emitted_spec : {M : Type 1} → statement M
+emitted_spec =
+    tie.close (tie.spec enum_known-fragment overflow_cast-result enum_told-1 no_color-requires returns-in-Covered returns-in-Empty)

@@ -5,12 +5,12 @@ use Rattle.c_types.proofs.Cases.{arm, default}
 use Rattle.c_draw.proofs.geometry_of.Statement.{statement}
 use Rattle.c_draw.proofs.geometry_of.Tie as tie
 
-pub geometry-of-spec : {M : Type 1} → statement M
+pub geometry_of_spec : {M : Type 1} → statement M
 unfolding geometry_from
-geometry-of-spec =
+geometry_of_spec =
     tie.close
     (tie.spec
-    (λ c. let p = c.before.args.p in arm (geometries p) Nothing p.kind c.match.keys1)
-    (λ c. let p = c.before.args.p in arm (geometries p) Nothing p.kind c.match.keys2)
-    (λ c. let p = c.before.args.p in arm (geometries p) Nothing p.kind c.match.keys3)
-    (λ c. let p = c.before.args.p in default (geometries p) Nothing p.kind c.match.rest))
+    (λ c. let p = c.args.p in arm (geometries p) Nothing p.kind c.in-0.is)
+    (λ c. let p = c.args.p in arm (geometries p) Nothing p.kind c.in-1.is)
+    (λ c. let p = c.args.p in arm (geometries p) Nothing p.kind c.in-2.is)
+    (λ c. let p = c.args.p in default (geometries p) Nothing p.kind c.in_default.in_default-own.rest))

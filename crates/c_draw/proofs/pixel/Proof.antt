@@ -6,11 +6,11 @@ use borrow.Author.Rules.{rules}
 use Rattle.c_draw.proofs.pixel.Statement.{statement}
 use Rattle.c_draw.proofs.pixel.Tie as tie
 
-combiner-of-requires : tie.Need-combiner-of-requires
-combiner-of-requires c κs = search rules
+combiner_of-k-requires : tie.Need-combiner_of-k-requires
+combiner_of-k-requires c κs = search rules
 
-geometry-of-requires : tie.Need-geometry-of-requires
-geometry-of-requires c κs = search rules
+geometry_of-g-requires : tie.Need-geometry_of-g-requires
+geometry_of-g-requires c κs = search rules
 
 pixel-requires : tie.Need-pixel-requires
 pixel-requires c κs = search rules
@@ -20,12 +20,12 @@ emitted-requires c κs = search rules
 
 returns : tie.Need-returns
 returns c =
-    let a = c.before.before.before.before.before.before.before.args in
+    let a = c.args in
     c.emitted.ensures
-    ∙ ap fragment_answer (c.before.pixel.ensures
-    ∙ (λ i. emitted_pixel a.mode.antialias (c.before.before.before.combiner-of.ensures i) a.cull (c.before.before.geometry-of.ensures i) a.vertices.now a.present.now a.indices.now a.i a.y a.x))
+    ∙ ap fragment_answer (c.pixel.ensures
+    ∙ (λ i. emitted_pixel a.mode.antialias (c.combiner_of-k.ensures i) a.cull (c.geometry_of-g.ensures i) a.vertices.now a.present.now a.indices.now a.i a.y a.x))
 
-pub pixel-spec : {M : Type 1} → statement M
-pixel-spec =
+pub pixel_spec : {M : Type 1} → statement M
+pixel_spec =
     tie.close
-    (tie.spec combiner-of-requires geometry-of-requires pixel-requires emitted-requires returns)
+    (tie.spec combiner_of-k-requires geometry_of-g-requires pixel-requires emitted-requires returns)

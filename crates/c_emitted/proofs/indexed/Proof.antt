@@ -7,46 +7,46 @@ use borrow.Author.Rules.{rules}
 use Rattle.c_emitted.proofs.indexed.Statement.{statement}
 use Rattle.c_emitted.proofs.indexed.Tie as tie
 
-returns : tie.Need-returns
+returns-then-count-i : tie.Need-returns-then-count-i
 unfolding emitted_indexed
-returns c = taken _ _ _ (le-leb _ _ c.if1.true)
+returns-then-count-i c = taken _ _ _ (le-leb _ _ c.if-count-i.true)
 
-triangle-at-requires : tie.Need-triangle-at-requires
-triangle-at-requires c κs = search rules
+triangle_at-requires : tie.Need-triangle_at-requires
+triangle_at-requires c κs = search rules
 
-enum-known-a : tie.Need-enum-known-a
-enum-known-a c = search rules
+enum_known-a : tie.Need-enum_known-a
+enum_known-a c = search rules
 
-enum_told : tie.Need-enum-told
-enum_told c = search rules
+enum_told-1 : tie.Need-enum_told-1
+enum_told-1 c = search rules
 
-returns-2 : tie.Need-returns-2
+returns-in_default : tie.Need-returns-in_default
 unfolding emitted_indexed
-returns-2 c =
-    let w = c.before.before.before in
-    let s = w.before.before.before.before.args in
-    let e = sym c.before.before.triangle-at.ensures ∙ c.enum_told.given.1 in
-    passed _ _ _ (lt-leb _ _ w.if1.false) (λ i. emitted_three s.antialias s.combiner s.cull (sym e i) s.y s.x)
+returns-in_default c =
+    let w = c.before.before in
+    let s = w.args in
+    let e = sym c.triangle_at.ensures ∙ c.in_default.is in
+    passed _ _ _ (lt-leb _ _ w.if-count-i.false) (λ i. emitted_three s.antialias s.combiner s.cull (sym e i) s.y s.x)
 
 triangle-requires : tie.Need-triangle-requires
 triangle-requires c κs = search rules
 
-returns-3 : tie.Need-returns-3
+returns : tie.Need-returns
 unfolding emitted_indexed
-returns-3 c =
-    let w = c.before.before.before.before.before in
-    let s = w.before.before.before.before.args in
-    let e = sym c.before.before.before.before.triangle-at.ensures ∙ c.before.before.a.given.1 in
-    passed _ _ _ (lt-leb _ _ w.if1.false) (c.triangle.ensures ∙ (λ i. emitted_three s.antialias s.combiner s.cull (sym e i) s.y s.x))
+returns c =
+    let w = c.before.before.before in
+    let s = w.args in
+    let e = sym c.triangle_at.ensures ∙ c.in-Vertices.is in
+    passed _ _ _ (lt-leb _ _ w.if-count-i.false) (c.triangle.ensures ∙ (λ i. emitted_three s.antialias s.combiner s.cull (sym e i) s.y s.x))
 
-pub indexed-spec : {M : Type 1} → statement M
-indexed-spec =
+pub indexed_spec : {M : Type 1} → statement M
+indexed_spec =
     tie.close
     (tie.spec
-    returns
-    triangle-at-requires
-    enum-known-a
-    enum_told
-    returns-2
+    returns-then-count-i
+    triangle_at-requires
+    enum_known-a
+    enum_told-1
+    returns-in_default
     triangle-requires
-    returns-3)
+    returns)
