@@ -1,15 +1,14 @@
 -- The answers follow from the draw's plan: its number where it is turned away, and else the list that the draw would carry out, of which the masks alone are listed. Assumes
 -- nothing.
-use Prim.Native.Nat.{ℕ, zero, suc, ◌+◌, ◌-◌, ◌*◌, ◌/◌, ◌≤◌, ◌<◌, min}
+use Prim.Native.Nat.{ℕ, zero, suc, ◌+◌, ◌-◌, ◌≤◌, ◌<◌, min}
 use mathlib.Core.Path.{◌≡◌, refl, sym, ap, subst, ◌∙◌}
-use mathlib.Core.Bool.{Bool, true, false, cond}
-use mathlib.Core.List.{List, [], ◌∷◌, map}
+use mathlib.Core.Bool.{true, cond}
+use mathlib.Core.List.{List, map}
 use native.Mathlib.Omega.{arith}
 use borrow.Author.Tests.{eq-eqb, ne_eqb}
 use lib.Dec.{eqb}
 use lib.ListN.{length, get_or, length-map, get_or-map}
 use lib.Seq.{ext_get_or}
-use Rattle.state.specs.declared.Rgba.{Rgba}
 use Rattle.combiner.specs.declared.Combiner.{Combiner}
 use Rattle.combiner_resolved.specs.Resolved.{mixed_by, resolved_of}
 use Rattle.raster_pixel.specs.declared.Geometry.{Geometry}
@@ -18,11 +17,10 @@ use Rattle.raster_pixel.specs.Admitted.{admitted_of}
 use Rattle.raster_pixel.specs.Area.{Sized}
 use Rattle.raster_pixel.specs.Emitted.{Emit}
 use Rattle.raster_pixel.specs.Near.{TrianglesNear}
-use Rattle.raster_pixel.specs.Parts.{from}
 use Rattle.raster_pixel.proofs.Counts.{geometry-most}
 use Rattle.raster_pixel.proofs.Near.{admitted_near}
 use Rattle.raster_pixel.proofs.Parts.{each_length, each_at}
-use Rattle.raster_emitted.specs.Masked.{Masked, masked_of, no_pixel, kth}
+use Rattle.raster_emitted.specs.Masked.{Masked, masked_of, no_pixel}
 use Rattle.raster_emitted.specs.Shapes.{geometry_masks}
 use Rattle.raster_emitted.proofs.Colorless.{geometry-masks}
 use Rattle.frame.specs.Checks.{or_else}
@@ -31,13 +29,13 @@ use Rattle.frame_paint.specs.Paint.{Mixed}
 use Rattle.frame_draw.specs.declared.Accepted.{Accepted}
 use Rattle.frame_draw.specs.declared.Accepted.TheVariants as accept
 use Rattle.frame_draw.specs.Answered.{plan_by}
-use Rattle.frame_draw.specs.Draw.{DrawArgs, Plan, plan_of, emitted_by, DrawAnswer, answer_by, draw_answer}
+use Rattle.frame_draw.specs.Draw.{DrawArgs, Plan, plan_of, emitted_by, answer_by, draw_answer}
 use Rattle.frame_draw.proofs.Plans.{number_of, accepted_plan, drawable}
 use Rattle.frame_emitted.specs.declared.Emitted.{Emitted}
 use Rattle.frame_emitted.specs.declared.Emitted.TheVariants as emitted
 use Rattle.frame_emitted.specs.declared.Listed.TheVariants as listed
 use Rattle.frame_emitted.specs.Emitted.{PixelAnswer, without_pixel, pixel_of, pixel_means, NumberedPixel, pixel_by, emitted_answer}
-use Rattle.frame_emitted.specs.Run.{PixelsAnswer, pixels_means, NumberedPixels, singles, pixels_refusal, pixels_by, emitted_run}
+use Rattle.frame_emitted.specs.Run.{pixels_means, NumberedPixels, singles, pixels_by, emitted_run}
 use Rattle.frame_emitted.specs.Places.{largest_count, FoundAt, ListedAll}
 use Rattle.frame_emitted.proofs.Ends.{pixel_there}
 

@@ -1,18 +1,17 @@
 -- Emitted pixels turn on the frame by numbers 1 to 3 alone: where these say the same of two frames, the answers are the same. Assumes nothing.
 use Prim.Native.Nat.{ℕ, ◌+◌}
-use mathlib.Core.Path.{◌≡◌, ap, ◌∙◌}
+use mathlib.Core.Path.{◌≡◌, ap}
 use mathlib.Core.List.{List, [], ◌∷◌}
 use lib.Dec.{eqb}
 use lib.ListN.{length}
 use mathlib.Core.Bool.{cond}
-use Rattle.raster_pixel.specs.Parts.{from}
 use Rattle.raster_pixel.proofs.Parts.{from_same}
 use Rattle.frame.specs.Checks.{frame_refusal, or_else}
 use Rattle.frame.specs.Frame.{Frame}
-use Rattle.frame_draw.specs.Draw.{DrawArgs, Plan, DrawAnswer}
+use Rattle.frame_draw.specs.Draw.{DrawArgs, Plan}
 use Rattle.frame_draw.proofs.Frames.{plan_same, draw_same}
-use Rattle.frame_emitted.specs.Emitted.{PixelAnswer, pixel_by, emitted_answer}
-use Rattle.frame_emitted.specs.Run.{singles, pixels_refusal, pixels_by, emitted_run}
+use Rattle.frame_emitted.specs.Emitted.{pixel_by, emitted_answer}
+use Rattle.frame_emitted.specs.Run.{singles, pixels_by, emitted_run}
 
 module _ (d : DrawArgs) (w h : ℕ) (f g : Frame) (e : frame_refusal f w h ≡ frame_refusal g w h) where
   pub pixel_same : (k : ℕ) → emitted_answer d w h f k ≡ emitted_answer d w h g k

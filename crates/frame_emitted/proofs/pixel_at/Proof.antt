@@ -29,11 +29,10 @@ bounds-masks-0 : tie.Need-bounds-masks-0
 bounds-masks-0 c = search rules
 
 returns : tie.Need-returns
-returns c =
-(
-      found _ refl c.count_past.ensures c.requires.1.1 c.list_by-count.ensures (omega arith) (omega (arith, c.if-count-k.false)),
-      there _ refl c.count_past.ensures c.requires.1.1 c.list_by-count.ensures (omega (arith, c.if-count-k.false)),
-    )
+returns c = (
+  found _ refl c.count_past.ensures c.requires.1.1 c.list_by-count.ensures (omega arith) (omega (arith, c.if-count-k.false)),
+  there _ refl c.count_past.ensures c.requires.1.1 c.list_by-count.ensures (omega (arith, c.if-count-k.false)),
+)
 
 pub pixel_at_spec : {M : Type 1} → statement M
 pixel_at_spec =
