@@ -64,6 +64,16 @@ module _ (f : Frame) (colors coverages : ℕ → ℕ) where
   abbrev whole : Frame
   whole = completed f colors coverages
 
+  -- its slices are as long as f's
+  as_colors : length whole.colors ≡ length f.colors
+  as_colors = length_filled (λ (i : ℕ). color_marked (get_or f.marks (i / 3) 0)) colors 0 f.colors
+
+  as_coverages : length whole.coverages ≡ length f.coverages
+  as_coverages = length_filled (λ (p : ℕ). coverage_marked (get_or f.marks p 0)) coverages 0 f.coverages
+
+  as_marks : length whole.marks ≡ length f.marks
+  as_marks = length_filled (λ (p : ℕ). false) (λ (p : ℕ). mark_of true true) 0 f.marks
+
   -- both marks
   marked : (p : ℕ) → p < length f.marks → get_or whole.marks p 0 ≡ 3
   unfolding mark_of
@@ -86,7 +96,7 @@ module _ (f : Frame) (colors coverages : ℕ → ℕ) where
       }
 
   pub completed_all_known : AllKnown whole
-  completed_all_known = record { pixels = λ p l. pixel p (subst (λ (n : ℕ). p < n) (length_filled _ _ 0 f.marks) l) }
+  completed_all_known = record { pixels = λ p l. pixel p (subst (λ (n : ℕ). p < n) as_marks l) }
     where
       pixel : (p : ℕ) → p < length f.marks → AllKnownPixel (pixel_at whole p)
       pixel p l = record { mark1 = ap color_marked (marked p l); mark2 = ap coverage_marked (marked p l) }
@@ -96,9 +106,9 @@ module _ (f : Frame) (colors coverages : ℕ → ℕ) where
     unfolding mark_of
     completed_fits =
         record {
-          colors = length_filled _ _ 0 f.colors ∙ (accepted f w h e).fit.colors;
-          coverages = length_filled _ _ 0 f.coverages ∙ (accepted f w h e).fit.coverages;
-          marks = length_filled _ _ 0 f.marks ∙ (accepted f w h e).fit.marks;
+          colors = as_colors ∙ (accepted f w h e).fit.colors;
+          coverages = as_coverages ∙ (accepted f w h e).fit.coverages;
+          marks = as_marks ∙ (accepted f w h e).fit.marks;
           low = λ p. filled_le (λ (p : ℕ). false) (λ (p : ℕ). mark_of true true) highest_mark 0 f.marks p p (omega arith) (λ t. never t) (omega arith);
           sound = λ p. bound (coverage_marked (get_or whole.marks p 0)) _ (byte p);
         }
@@ -123,9 +133,9 @@ module _ (f : Frame) (colors coverages : ℕ → ℕ) where
         record {
           frame =
               record {
-                colors = length_filled _ _ 0 f.colors;
-                coverages = length_filled _ _ 0 f.coverages;
-                marks = length_filled _ _ 0 f.marks;
+                colors = as_colors;
+                coverages = as_coverages;
+                marks = as_marks;
                 pixels = pixel_completed;
               };
           numbers = not_refused whole w h (record { width = a.width; height = a.height; few = a.few; fit = completed_fits }) ∙ sym e;
