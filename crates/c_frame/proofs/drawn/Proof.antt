@@ -7,20 +7,20 @@ use borrow.Author.Rules.{rules}
 use Rattle.c_frame.proofs.drawn.Statement.{statement}
 use Rattle.c_frame.proofs.drawn.Tie as tie
 
-enum-known-answer : tie.Need-enum-known-answer
-enum-known-answer c = search rules
+enum_known-answer : tie.Need-enum_known-answer
+enum_known-answer c = search rules
 
-enum-known-answer-2 : tie.Need-enum-known-answer-2
-enum-known-answer-2 c = search rules
+enum_known-answer-in-Refused-1 : tie.Need-enum_known-answer-in-Refused-1
+enum_known-answer-in-Refused-1 c = search rules
 
-cast-t5 : tie.Need-overflow-cast-t5
-cast-t5 c = search rules
+overflow_cast-result : tie.Need-overflow_cast-result
+overflow_cast-result c = search rules
 
-returns : tie.Need-returns
-returns c = sym (ap (λ (a : Drawn). drawn_answer (drawn_means a)) c.before.answer.given.1)
+returns-in-Emitted : tie.Need-returns-in-Emitted
+returns-in-Emitted c = sym (ap (λ (a : Drawn). drawn_answer (drawn_means a)) c.in-Emitted.is)
 
-returns-2 : tie.Need-returns-2
-returns-2 c = sym (ap (λ (a : Drawn). drawn_answer (drawn_means a)) c.before.answer2.given.1)
+returns-in-Refused : tie.Need-returns-in-Refused
+returns-in-Refused c = sym (ap (λ (a : Drawn). drawn_answer (drawn_means a)) c.in-Refused.is)
 
-pub drawn-spec : {M : Type 1} → statement M
-drawn-spec = tie.close (tie.spec enum-known-answer enum-known-answer-2 cast-t5 returns returns-2)
+pub drawn_spec : {M : Type 1} → statement M
+drawn_spec = tie.close (tie.spec enum_known-answer enum_known-answer-in-Refused-1 overflow_cast-result returns-in-Emitted returns-in-Refused)

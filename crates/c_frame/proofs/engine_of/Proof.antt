@@ -5,9 +5,9 @@ use Rattle.c_types.proofs.Cases.{arm, default}
 use Rattle.c_frame.proofs.engine_of.Statement.{statement}
 use Rattle.c_frame.proofs.engine_of.Tie as tie
 
-pub engine-of-spec : {M : Type 1} → statement M
-engine-of-spec =
+pub engine_of_spec : {M : Type 1} → statement M
+engine_of_spec =
     tie.close
     (tie.spec
-    (λ c. arm (Fast ∷ []) Slow c.before.args.number c.match.keys1)
-    (λ c. default (Fast ∷ []) Slow c.before.args.number c.match.rest))
+    (λ c. arm (Fast ∷ []) Slow c.args.number c.in-0.is)
+    (λ c. default (Fast ∷ []) Slow c.args.number c.in_default.in_default-own.rest))

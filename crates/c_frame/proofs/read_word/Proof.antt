@@ -7,22 +7,22 @@ use borrow.Author.Rules.{rules}
 use Rattle.c_frame.proofs.read_word.Statement.{statement}
 use Rattle.c_frame.proofs.read_word.Tie as tie
 
-byte-order-requires : tie.Need-byte-order-requires
-byte-order-requires c κs = search rules
+byte_order-order-requires : tie.Need-byte_order-order-requires
+byte_order-order-requires c κs = search rules
 
-read-word-requires : tie.Need-read-word-requires
-read-word-requires c κs = search rules
+read_word-requires : tie.Need-read_word-requires
+read_word-requires c κs = search rules
 
 word-requires : tie.Need-word-requires
 word-requires c κs = search rules
 
 returns : tie.Need-returns
 returns c =
-    let a = c.before.before.before.before.before.before.args in
+    let a = c.args in
     let f = frame_of a.colors.now a.coverages.now a.marks.now in
     c.word.ensures
-    ∙ ap word_answer c.before.read_word.ensures.0
-    ∙ (λ i. word_answer (read_answer (read_args a.pixel a.fmt a.siz a.rgb-dither (c.before.before.byte-order.ensures i)) a.width a.height f))
+    ∙ ap word_answer c.read_word.ensures.0
+    ∙ (λ i. word_answer (read_answer (read_args a.pixel a.fmt a.siz a.rgb_dither (c.byte_order-order.ensures i)) a.width a.height f))
 
-pub read-word-spec : {M : Type 1} → statement M
-read-word-spec = tie.close (tie.spec byte-order-requires read-word-requires word-requires returns)
+pub read_word_spec : {M : Type 1} → statement M
+read_word_spec = tie.close (tie.spec byte_order-order-requires read_word-requires word-requires returns)

@@ -8,37 +8,37 @@ use borrow.Author.Rules.{rules}
 use Rattle.c_frame.proofs.read_words.Statement.{statement}
 use Rattle.c_frame.proofs.read_words.Tie as tie
 
-byte-order-requires : tie.Need-byte-order-requires
-byte-order-requires c κs = search rules
+byte_order-order-requires : tie.Need-byte_order-order-requires
+byte_order-order-requires c κs = search rules
 
-read-words-requires : tie.Need-read-words-requires
-read-words-requires c κs = search rules
+read_words-answer-requires : tie.Need-read_words-answer-requires
+read_words-answer-requires c κs = search rules
 
 ran-requires : tie.Need-ran-requires
 ran-requires c κs = search rules
 
-same_length : tie.Need-same-length
-same_length c = search rules
+shape_of-words : tie.Need-shape_of-words
+shape_of-words c = search rules
 
-same-length-2 : tie.Need-same-length-2
-same-length-2 c = search rules
+shape_of-numbers : tie.Need-shape_of-numbers
+shape_of-numbers c = search rules
 
 returns : tie.Need-returns
 returns c =
-    let a = c.before.before.before.before.before.before.before.before.before.before.before.before.before.before.args in
+    let a = c.args in
     let f = frame_of a.colors.now a.coverages.now a.marks.now in
-    let o = c.before.before.before.before.before.before.before.before.byte-order.ensures in
-    ran-as c.before.before.before.before.before.read-words.result _ _ c.ran.ensures
-    (c.before.before.before.before.before.read-words.ensures.0
-    ∙ (λ i. run_answer (read_args a.first a.fmt a.siz a.rgb-dither (o i)) a.width a.height f a.words.now a.numbers.now))
+    let o = c.byte_order-order.ensures in
+    ran-as c.read_words-answer.result _ _ c.ran.ensures
+    (c.read_words-answer.ensures.0
+    ∙ (λ i. run_answer (read_args a.first a.fmt a.siz a.rgb_dither (o i)) a.width a.height f a.words.now a.numbers.now))
 
-pub read-words-spec : {M : Type 1} → statement M
-read-words-spec =
+pub read_words_spec : {M : Type 1} → statement M
+read_words_spec =
     tie.close
     (tie.spec
-    byte-order-requires
-    read-words-requires
+    byte_order-order-requires
+    read_words-answer-requires
     ran-requires
-    same_length
-    same-length-2
+    shape_of-words
+    shape_of-numbers
     returns)

@@ -7,32 +7,32 @@ use borrow.Author.Rules.{rules}
 use Rattle.c_frame.proofs.word.Statement.{statement}
 use Rattle.c_frame.proofs.word.Tie as tie
 
-enum-known-answer : tie.Need-enum-known-answer
-enum-known-answer c = search rules
+enum_known-answer : tie.Need-enum_known-answer
+enum_known-answer c = search rules
 
-cast-t6 : tie.Need-overflow-cast-t6
-cast-t6 c = search rules
+overflow_cast-result : tie.Need-overflow_cast-result
+overflow_cast-result c = search rules
 
-cast-t7 : tie.Need-overflow-cast-t7
-cast-t7 c = search rules
+overflow_cast-result-in-Bytes : tie.Need-overflow_cast-result-in-Bytes
+overflow_cast-result-in-Bytes c = search rules
 
-mul-t8 : tie.Need-overflow-mul-t8
-mul-t8 c = search rules
+overflow_mul-result : tie.Need-overflow_mul-result
+overflow_mul-result c = search rules
 
-add-t9 : tie.Need-overflow-add-t9
-add-t9 c = search rules
+overflow_add-result : tie.Need-overflow_add-result
+overflow_add-result c = search rules
 
-enum-known-answer-2 : tie.Need-enum-known-answer-2
-enum-known-answer-2 c = search rules
+enum_known-answer-in-Refused-1 : tie.Need-enum_known-answer-in-Refused-1
+enum_known-answer-in-Refused-1 c = search rules
 
-cast-t10 : tie.Need-overflow-cast-t10
-cast-t10 c = search rules
+overflow_cast-result-in-Refused : tie.Need-overflow_cast-result-in-Refused
+overflow_cast-result-in-Refused c = search rules
 
-returns : tie.Need-returns
-returns c = sym (ap (λ (a : Word). word_answer (word_means a)) c.before.answer.given.1)
+returns-in-Bytes : tie.Need-returns-in-Bytes
+returns-in-Bytes c = sym (ap (λ (a : Word). word_answer (word_means a)) c.in-Bytes.is)
 
-returns-2 : tie.Need-returns-2
-returns-2 c = sym (ap (λ (a : Word). word_answer (word_means a)) c.before.answer2.given.1)
+returns-in-Refused : tie.Need-returns-in-Refused
+returns-in-Refused c = sym (ap (λ (a : Word). word_answer (word_means a)) c.in-Refused.is)
 
-pub word-spec : {M : Type 1} → statement M
-word-spec = tie.close (tie.spec enum-known-answer cast-t6 cast-t7 mul-t8 add-t9 enum-known-answer-2 cast-t10 returns returns-2)
+pub word_spec : {M : Type 1} → statement M
+word_spec = tie.close (tie.spec enum_known-answer overflow_cast-result overflow_cast-result-in-Bytes overflow_mul-result overflow_add-result enum_known-answer-in-Refused-1 overflow_cast-result-in-Refused returns-in-Bytes returns-in-Refused)

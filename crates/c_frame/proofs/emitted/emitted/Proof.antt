@@ -7,39 +7,39 @@ use Rattle.c_frame.specs.Frames.{pixel_answer}
 use Rattle.c_frame.proofs.emitted.emitted.Statement.{statement}
 use Rattle.c_frame.proofs.emitted.emitted.Tie as tie
 
-enum-known-answer : tie.Need-enum-known-answer
-enum-known-answer c = search rules
+enum_known-answer : tie.Need-enum_known-answer
+enum_known-answer c = search rules
 
-cast-t6 : tie.Need-overflow-cast-t6
-cast-t6 c = search rules
+overflow_cast-result : tie.Need-overflow_cast-result
+overflow_cast-result c = search rules
 
-enum_told : tie.Need-enum-told
-enum_told c = search rules
+enum_told-1 : tie.Need-enum_told-1
+enum_told-1 c = search rules
 
-enum-known-answer-2 : tie.Need-enum-known-answer-2
-enum-known-answer-2 c = search rules
+enum_known-answer-in-Refused-1 : tie.Need-enum_known-answer-in-Refused-1
+enum_known-answer-in-Refused-1 c = search rules
 
-cast-t7 : tie.Need-overflow-cast-t7
-cast-t7 c = search rules
+overflow_cast-result-in-Refused : tie.Need-overflow_cast-result-in-Refused
+overflow_cast-result-in-Refused c = search rules
 
-returns : tie.Need-returns
-returns c = sym (ap (λ (a : Emitted). pixel_answer (pixel_means a)) c.before.answer.given.1)
+returns-in-Pixel : tie.Need-returns-in-Pixel
+returns-in-Pixel c = sym (ap (λ (a : Emitted). pixel_answer (pixel_means a)) c.in-Pixel.is)
 
-returns-2 : tie.Need-returns-2
-returns-2 c = sym (ap (λ (a : Emitted). pixel_answer (pixel_means a)) c.enum_told.given.1)
+returns-in-Past : tie.Need-returns-in-Past
+returns-in-Past c = sym (ap (λ (a : Emitted). pixel_answer (pixel_means a)) c.in-Past.is)
 
-returns-3 : tie.Need-returns-3
-returns-3 c = sym (ap (λ (a : Emitted). pixel_answer (pixel_means a)) c.before.answer2.given.1)
+returns-in-Refused : tie.Need-returns-in-Refused
+returns-in-Refused c = sym (ap (λ (a : Emitted). pixel_answer (pixel_means a)) c.in-Refused.is)
 
-pub emitted-spec : {M : Type 1} → statement M
-emitted-spec =
+pub emitted_spec : {M : Type 1} → statement M
+emitted_spec =
     tie.close
     (tie.spec
-    enum-known-answer
-    cast-t6
-    enum_told
-    enum-known-answer-2
-    cast-t7
-    returns
-    returns-2
-    returns-3)
+    enum_known-answer
+    overflow_cast-result
+    enum_told-1
+    enum_known-answer-in-Refused-1
+    overflow_cast-result-in-Refused
+    returns-in-Pixel
+    returns-in-Past
+    returns-in-Refused)

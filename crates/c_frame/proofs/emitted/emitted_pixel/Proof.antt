@@ -8,17 +8,17 @@ use Rattle.c_frame.specs.Frames.{pixel_answer}
 use Rattle.c_frame.proofs.emitted.emitted_pixel.Statement.{statement}
 use Rattle.c_frame.proofs.emitted.emitted_pixel.Tie as tie
 
-render-mode-requires : tie.Need-render-mode-requires
-render-mode-requires c κs = search rules
+render_mode-m-requires : tie.Need-render_mode-m-requires
+render_mode-m-requires c κs = search rules
 
-geometry-of-requires : tie.Need-geometry-of-requires
-geometry-of-requires c κs = search rules
+geometry_of-g-requires : tie.Need-geometry_of-g-requires
+geometry_of-g-requires c κs = search rules
 
-engine-of-requires : tie.Need-engine-of-requires
-engine-of-requires c κs = search rules
+engine_of-requires : tie.Need-engine_of-requires
+engine_of-requires c κs = search rules
 
-emitted-pixel-requires : tie.Need-emitted-pixel-requires
-emitted-pixel-requires c κs = search rules
+emitted_pixel-answer-requires : tie.Need-emitted_pixel-answer-requires
+emitted_pixel-answer-requires c κs = search rules
 
 emitted-requires : tie.Need-emitted-requires
 emitted-requires c κs = search rules
@@ -28,19 +28,19 @@ returns c =
     let p = c.before in
     let g = p.before.before in
     let m = g.before in
-    let a = m.before.before.before.before.before.before.before.args in
+    let a = m.args in
     let f = frame_of a.colors.now a.coverages.now a.marks.now in
     c.emitted.ensures
-    ∙ ap pixel_answer p.emitted-pixel.ensures.0
-    ∙ (λ i. pixel_answer (emitted_answer (draw_args (m.render-mode.ensures i) a.uniform a.cull a.scissor (g.geometry-of.ensures i) a.vertices.now a.present.now a.indices.now) a.width a.height f a.k))
+    ∙ ap pixel_answer p.emitted_pixel-answer.ensures.0
+    ∙ (λ i. pixel_answer (emitted_answer (draw_args (m.render_mode-m.ensures i) a.uniform a.cull a.scissor (g.geometry_of-g.ensures i) a.vertices.now a.present.now a.indices.now) a.width a.height f a.k))
 
-pub emitted-pixel-spec : {M : Type 1} → statement M
-emitted-pixel-spec =
+pub emitted_pixel_spec : {M : Type 1} → statement M
+emitted_pixel_spec =
     tie.close
     (tie.spec
-    render-mode-requires
-    geometry-of-requires
-    engine-of-requires
-    emitted-pixel-requires
+    render_mode-m-requires
+    geometry_of-g-requires
+    engine_of-requires
+    emitted_pixel-answer-requires
     emitted-requires
     returns)

@@ -7,20 +7,20 @@ use Rattle.c_frame.specs.Frames.{listed_answer}
 use Rattle.c_frame.proofs.emitted.listed.Statement.{statement}
 use Rattle.c_frame.proofs.emitted.listed.Tie as tie
 
-enum-known-answer : tie.Need-enum-known-answer
-enum-known-answer c = search rules
+enum_known-answer : tie.Need-enum_known-answer
+enum_known-answer c = search rules
 
-enum-known-answer-2 : tie.Need-enum-known-answer-2
-enum-known-answer-2 c = search rules
+enum_known-answer-in-Refused-1 : tie.Need-enum_known-answer-in-Refused-1
+enum_known-answer-in-Refused-1 c = search rules
 
-cast-t6 : tie.Need-overflow-cast-t6
-cast-t6 c = search rules
+overflow_cast-result : tie.Need-overflow_cast-result
+overflow_cast-result c = search rules
 
-returns : tie.Need-returns
-returns c = λ ps ms. sym (ap (λ (a : Listed). listed_answer (pixels_means a ps ms)) c.before.answer.given.1)
+returns-in-Pixels : tie.Need-returns-in-Pixels
+returns-in-Pixels c = λ ps ms. sym (ap (λ (a : Listed). listed_answer (pixels_means a ps ms)) c.in-Pixels.is)
 
-returns-2 : tie.Need-returns-2
-returns-2 c = λ ps ms. sym (ap (λ (a : Listed). listed_answer (pixels_means a ps ms)) c.before.answer2.given.1)
+returns-in-Refused : tie.Need-returns-in-Refused
+returns-in-Refused c = λ ps ms. sym (ap (λ (a : Listed). listed_answer (pixels_means a ps ms)) c.in-Refused.is)
 
-pub listed-spec : {M : Type 1} → statement M
-listed-spec = tie.close (tie.spec enum-known-answer enum-known-answer-2 cast-t6 returns returns-2)
+pub listed_spec : {M : Type 1} → statement M
+listed_spec = tie.close (tie.spec enum_known-answer enum_known-answer-in-Refused-1 overflow_cast-result returns-in-Pixels returns-in-Refused)
