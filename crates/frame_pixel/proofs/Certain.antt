@@ -25,7 +25,7 @@ use Rattle.frame_pixel.specs.Marks.{color_marked, coverage_marked, unknown}
 use Rattle.frame_pixel.specs.Rules.{rule_f1, rule_f2, unit, memory_of, rule_f3, rule_f5, coverage_at, known_after, colors_after, coverage_after}
 use Rattle.frame_pixel.specs.Certain.{Completes, CertainColors, CertainCoverage, colors_over, SameAtEnds}
 use Rattle.num_float.proofs.Tests.{never, both_left, both_right, and_false}
-use Rattle.frame_pixel.proofs.Eight.{fresh_known}
+use Rattle.frame_pixel.proofs.Asked.{fresh_known}
 use Rattle.frame_pixel.proofs.Knows.{memory_too, same_colors, coverage_too, all_covered, all_colors}
 
 -- ---- what is known is certain

@@ -2,9 +2,9 @@
 -- The closed form that the code goes by is the same. Assumes nothing.
 use Prim.Native.Nat.{ℕ, ◌≤◌}
 use mathlib.Core.Path.{◌≡◌, refl, sym, ap, ◌∙◌}
-use mathlib.Core.Bool.{Bool, true, false, cond, ◌&&◌}
+use mathlib.Core.Bool.{Bool, true, false, cond}
 use native.Mathlib.Omega.{arith}
-use borrow.Author.Tests.{eqb-true, eqb-false, eq-eqb, ne_eqb}
+use borrow.Author.Tests.{eqb-true, eqb-false, ne_eqb}
 use lib.Dec.{eqb}
 use Rattle.state.specs.declared.RenderMode.{RenderMode}
 use Rattle.blender.specs.declared.Coverage.TheVariants.{Unknown, Known}
@@ -12,34 +12,15 @@ use Rattle.blender.specs.Coverage.{destination_of}
 use Rattle.blender.specs.Blend.{or_zero}
 use Rattle.blender.specs.Settled.{settled_of}
 use Rattle.blender.proofs.Settled.{one_number, ends_same, settled_ends}
-use Rattle.num_float.proofs.Tests.{never, and_false}
+use Rattle.num_float.proofs.Tests.{never}
 use Rattle.frame_pixel.specs.Marks.{unknown}
-use Rattle.frame_pixel.specs.Rules.{all_eight, fresh_coverage}
-
--- ---- eight questions
-all_yes : (asked : ℕ → Bool) → ((c : ℕ) → c ≤ 7 → asked c ≡ true) → all_eight asked ≡ true
-all_yes asked said =
-    λ i.
-    said 0 (omega arith) i && said 1 (omega arith) i && said 2 (omega arith) i && said 3 (omega arith) i && said 4 (omega arith) i && said 5 (omega arith) i
-    && said 6 (omega arith) i && said 7 (omega arith) i
-
-last_no : (asked : ℕ → Bool) → asked 7 ≡ false → all_eight asked ≡ false
-last_no asked e =
-    let others = asked 0 && asked 1 && asked 2 && asked 3 && asked 4 && asked 5 && asked 6 in
-    (λ i. others && e i) ∙ and_false others
+use Rattle.frame_pixel.specs.Rules.{fresh_coverage}
+use Rattle.frame_pixel.proofs.Asked.{last_no, fresh_known}
 
 -- ---- `destination` asked eight times
 module _ (mode : RenderMode) (n : ℕ) where
   abbrev d : ℕ → ℕ
   d c = destination_of mode n c
-
-  -- one number for all eight is known
-  pub fresh_known : (v : ℕ) → ((c : ℕ) → c ≤ 7 → destination_of mode n c ≡ v) → fresh_coverage mode n ≡ Known v
-  unfolding fresh_coverage
-  fresh_known v same =
-      let first = same 0 (omega arith) in
-      let all = all_yes (λ c. eqb (d c) (d 0)) (λ c l. eq-eqb (d c) (d 0) (same c l ∙ sym first)) in
-      (λ i. cond (all i) (Known (d 0)) Unknown) ∙ ap Known first
 
   -- two numbers are not
   pub fresh_unknown : (destination_of mode n 7 ≡ destination_of mode n 0 → ⊥) → fresh_coverage mode n ≡ Unknown
@@ -51,7 +32,7 @@ module _ (mode : RenderMode) (n : ℕ) where
   fresh_ends = go (eqb (d 7) (d 0)) refl
     where
       go : (b : Bool) → eqb (d 7) (d 0) ≡ b → fresh_coverage mode n ≡ cond b (Known (d 0)) Unknown
-      go true e = fresh_known (d 0) (λ c l. ends_same mode n (eqb-true (d 7) (d 0) e) c)
+      go true e = fresh_known mode n (d 0) (λ c l. ends_same mode n (eqb-true (d 7) (d 0) e) c)
       go false e = fresh_unknown (eqb-false (d 7) (d 0) e)
 
   -- what is known is the number that `destination` gives, whatever memory has

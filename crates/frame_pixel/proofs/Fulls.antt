@@ -25,7 +25,8 @@ use Rattle.frame_pixel.specs.Rules.{rule_f1, rule_f2, memory_of, rule_f3, rule_f
 use Rattle.frame_pixel.specs.Coloring.{own_colors, over_colors}
 use Rattle.frame_pixel.specs.Full.{is_full, FullOf, Enough, full_coverage, full_with, full_step}
 use Rattle.num_float.proofs.Tests.{never, and_false}
-use Rattle.frame_pixel.proofs.Eight.{fresh_known, fresh_unknown}
+use Rattle.frame_pixel.proofs.Asked.{fresh_known}
+use Rattle.frame_pixel.proofs.Eight.{fresh_unknown}
 use Rattle.frame_pixel.proofs.Colorings.{where_known, opaque_yes, opaque_colors, layered_known, layered_colors}
 
 -- ---- F5 with all eight samples, by what it makes of a coverage that is not known

@@ -1,4 +1,5 @@
 -- What several proofs of crate `frame_pixel` share, and the laws that other crates cite.
+pub mod Asked
 pub mod Eight
 pub mod Alike
 pub mod Knows
