@@ -1,5 +1,5 @@
 -- To be believed. The frame: three lent lists, and its pixels. Definitions only. Source: docs/RULES.md, The frame.
-use Rattle.std.specs.Prelude.{ℕ, ◌+◌, ◌*◌, List, length, get_or, set}
+use Rattle.std.specs.Prelude.{ℕ, ◌+◌, ◌*◌, List, get_or, set}
 use Rattle.frame_pixel.specs.declared.Pixel.{Pixel}
 
 -- colour bytes, coverages and marks

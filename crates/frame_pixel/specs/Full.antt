@@ -1,6 +1,6 @@
 -- Inner vocabulary. A pixel with all eight samples of a colour that is worked out ahead: what it does turns on the mark at its place, and on the memory's colour where it is
 -- layered. Definitions only; that it is what the rules give is proofs/Fulls.
-use Rattle.std.specs.Prelude.{ℕ, ◌≡◌, Bool, true, false, cond, ◌||◌, eqb}
+use Rattle.std.specs.Prelude.{◌≡◌, Bool, true, false, cond, ◌||◌, eqb}
 use Rattle.state.specs.declared.RenderMode.{RenderMode}
 use Rattle.state.specs.declared.Rgba.{Rgba}
 use Rattle.combiner.specs.declared.Combiner.{Combiner}

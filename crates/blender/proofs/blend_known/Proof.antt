@@ -1,6 +1,5 @@
 -- `blend_known` meets its contract: `color_known` first, and `blend` where it says yes. Assumes nothing.
 use borrow.Author.Rules.{rules}
-use borrow.Author.Tests.{not-true, not-false}
 use mathlib.Core.Path.{sym, ◌∙◌}
 use mathlib.Core.Bool.{cond}
 use Rattle.blender.specs.declared.Joined.TheVariants.{Fallback, Stored}

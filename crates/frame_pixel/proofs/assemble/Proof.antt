@@ -1,5 +1,5 @@
 -- `assemble` meets its contract: the colours, the coverage byte and the mark. Assumes nothing.
-use mathlib.Core.Path.{ap, ◌∙◌}
+use mathlib.Core.Path.{◌∙◌}
 use mathlib.Core.Bool.{not}
 use Rattle.frame_pixel.specs.Marks.{mark_of}
 use Rattle.frame_pixel.specs.Rules.{assembled}

@@ -1,6 +1,5 @@
 -- `blended` meets its contract: F2 first, and then what `blend_known` answers. Assumes nothing.
 use mathlib.Core.Path.{sym, ap, ◌∙◌}
-use Rattle.blender.specs.declared.Coverage.{Coverage}
 use Rattle.blender.specs.Joined.{joined}
 use Rattle.frame_pixel.specs.Rules.{rule_f2, memory_of}
 use Rattle.frame_pixel.proofs.Colorings.{in_doubt, fell_back, was-stored}

@@ -1,9 +1,8 @@
 -- `color_after` meets its contract: the arm of what is known ahead. Assumes nothing.
-use mathlib.Core.Path.{sym, ap, subst, ◌∙◌}
+use mathlib.Core.Path.{sym, subst, ◌∙◌}
 use mathlib.Core.Bool.{cond}
 use Rattle.blender.proofs.Solid.{opaque}
 use Rattle.blender.proofs.Layers.{layered}
-use Rattle.frame_pixel.specs.declared.Coloring.{Coloring}
 use Rattle.frame_pixel.specs.Marks.{color_marked}
 use Rattle.frame_pixel.specs.Rules.{rule_f4}
 use Rattle.frame_pixel.specs.Coloring.{over_colors, ColoringOf}

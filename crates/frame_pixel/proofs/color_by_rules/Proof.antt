@@ -1,10 +1,7 @@
 -- `color_by_rules` meets its contract: F1, then F2, and then the bytes of F3 (`not_known`, `in_doubt`, `was-known`). Assumes nothing.
 use mathlib.Core.Path.{◌≡◌, sym, ap, ◌∙◌}
-use mathlib.Core.Bool.{Bool, false, true}
-use borrow.Author.Tests.{not-true, not-false}
-use Rattle.blender.specs.declared.Coverage.{Coverage}
+use mathlib.Core.Bool.{true}
 use Rattle.blender.specs.Blend.{or_zero, blend_of}
-use Rattle.frame_pixel.specs.declared.Colors.{Colors}
 use Rattle.frame_pixel.specs.declared.Colored.{Colored}
 use Rattle.frame_pixel.specs.Marks.{color_marked}
 use Rattle.frame_pixel.specs.Rules.{rule_f1, rule_f2, rule_f3, coverage_at, memory_of}

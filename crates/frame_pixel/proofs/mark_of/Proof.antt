@@ -1,7 +1,6 @@
 -- `mark_of` meets its contract: each mark adds its own number. Assumes nothing.
 use mathlib.Core.Path.{sym}
 use Rattle.frame_pixel.specs.Marks.{mark_of}
-use borrow.Author.Rules.{rules}
 use Rattle.frame_pixel.proofs.mark_of.Statement.{statement}
 use Rattle.frame_pixel.proofs.mark_of.Tie as tie
 

@@ -1,5 +1,5 @@
 -- `is_full` meets its contract: the arm of the coverage that it is. Assumes nothing.
-use mathlib.Core.Path.{sym, ap, ◌∙◌}
+use mathlib.Core.Path.{sym, ap}
 use Rattle.frame_pixel.specs.Full.{is_full}
 use borrow.Author.Rules.{rules}
 use Rattle.frame_pixel.proofs.full.is_full.Statement.{statement}
