@@ -66,13 +66,13 @@ module _ (f : Frame) (colors coverages : ℕ → ℕ) where
 
   -- its slices are as long as f's
   as_colors : length whole.colors ≡ length f.colors
-  as_colors = length_filled (λ (i : ℕ). color_marked (get_or f.marks (i / 3) 0)) colors 0 f.colors
+  as_colors = simp length_filled
 
   as_coverages : length whole.coverages ≡ length f.coverages
-  as_coverages = length_filled (λ (p : ℕ). coverage_marked (get_or f.marks p 0)) coverages 0 f.coverages
+  as_coverages = simp length_filled
 
   as_marks : length whole.marks ≡ length f.marks
-  as_marks = length_filled (λ (p : ℕ). false) (λ (p : ℕ). mark_of true true) 0 f.marks
+  as_marks = simp length_filled
 
   -- both marks
   marked : (p : ℕ) → p < length f.marks → get_or whole.marks p 0 ≡ 3
