@@ -1,7 +1,6 @@
 // The public set of the port: what a host may call, and the types that it needs for that. Nothing is defined here; docs/THEOREMS.md has each call's contract.
 #![tactic(auto)]
 
-
 // A draw's state.
 pub use state::{AlphaCompare, BlendClass, CombinerUniform, RenderMode, Rgba, ZMode};
 
