@@ -15,7 +15,7 @@ import sys
 LANDED = "a866acf54e6b985d1fa5248b43148cae0c1bf1dc"
 
 TOKEN = re.compile(r"[^\s(){}.;,@\"«»`|]+")
-DECLARED = re.compile(r"^(\s*)(?:abbrev |unfoldable )?(?:pub )?(?:abbrev |unfoldable )?([^\s:(){}.]+) : (.*)")
+DECLARED = re.compile(r"^(\s*)(?:abbrev |unfoldable )?(?:pub )?(?:abbrev |unfoldable )?([^\s:(){}.]+) :(?: (.*))?$")
 LIST = re.compile(r"^(\s*)(?:pub )?(?:record|data|ruleset) ([^\s:(){}.]+)")
 CODE = re.compile(r"`[^`\n]+`")
 
@@ -49,7 +49,7 @@ def declared(p):
     for line in read(p).split("\n"):
         m = DECLARED.match(line)
         if m and not m[2].startswith("--"):
-            made = is_walk(p) and (m[3].startswith(("tie.", "goal.")) or m[2].endswith("-spec"))
+            made = is_walk(p) and ((m[3] or "").startswith(("tie.", "goal.")) or m[2].endswith(("-spec", "_spec")))
             found[m[2]] = found.get(m[2], False) or made
     return found
 
@@ -127,6 +127,9 @@ def main():
     if "--check" in sys.argv:
         return
     ported = turned_by_port(antt)
+    if "--list" in sys.argv:
+        print(" ".join(f"{a}={b}" for a, b in table.items()))
+        return
     respell(table, made, {a: table.get(b, b) for a, b in ported.items()} | table)
 
 

@@ -167,12 +167,12 @@ same_source i k color a {memory} {memory'} h t = go (eqb i 1) a t h
     go true false t g = never (sym t)
 
 -- B, for two coverages that the memory may have
-same-share :
+same_share :
     (mode : RenderMode) (e : Float) {c : Coverage} {i j : ℕ} → Less c (Known i) → Less c (Known j) → where_unknown c (any_coverage mode) ≡ true
     → factor_b (mux_of mode.blender_mux).b e i ≡ factor_b (mux_of mode.blender_mux).b e j
 unfolding any_coverage factor_b
-same-share mode e Less.same Less.same t = refl
-same-share mode e {i = i} {j = j} Less.none Less.none t =
+same_share mode e Less.same Less.same t = refl
+same_share mode e {i = i} {j = j} Less.none Less.none t =
     let n = not_coverage (eqb (mux_of mode.blender_mux).b 1) _ t in
     (λ k. cond (eqb b 0) (sub binary32 f1 e) (cond (n k) (eighths i) rest)) ∙ sym (λ k. cond (eqb b 0) (sub binary32 f1 e) (cond (n k) (eighths j) rest))
   where
@@ -190,18 +190,18 @@ same-share mode e {i = i} {j = j} Less.none Less.none t =
     not_coverage false r q = refl
 
 -- where the colour is known, a blend gives the same bytes for two coverages that the memory may have, if it stands alone over both or over neither
-pub blend-same :
+pub blend_same :
     (mode : RenderMode) (k : Combiner) (color : Rgba) (shade : Float) (n : ℕ) (c : Coverage) (a : Bool) (memory memory' : Rgba) (i j : ℕ)
     → color_known mode color.a n c a ≡ true → (a ≡ true → memory ≡ memory') → Less c (Known i) → Less c (Known j)
     → alone mode color.a n (Known i) ≡ alone mode color.a n (Known j)
     → blend_of mode k color memory shade n i ≡ blend_of mode k color memory' shade n j
 unfolding blend_of
-blend-same mode k color shade n c a memory memory' i j told h li lj stands =
+blend_same mode k color shade n c a memory memory' i j told h li lj stands =
     rw (sym stands)
     (same_bytes mode.force_blend e color.a (alone mode color.a n (Known i))
     (same_source x.p k color a h (p_there mode color.a n c a told))
     (λ t. same_source x.m k color a h (m_there mode color.a n c a told li t))
-    (λ t. same-share mode e li lj (any-coverage mode color.a n c a told li t)))
+    (λ t. same_share mode e li lj (any-coverage mode color.a n c a told li t)))
   where
     x : Mux
     x = mux_of mode.blender_mux
@@ -210,13 +210,13 @@ blend-same mode k color shade n c a memory memory' i j told h li lj stands =
     e = factor_a x.a color.a k.fog.a shade
 
 -- a pixel that stands alone over both has P's bytes over both
-pub alone-blend-same :
+pub alone_blend_same :
     (mode : RenderMode) (k : Combiner) (color : Rgba) (shade : Float) (n : ℕ) (a : Bool) (memory memory' : Rgba) (i j : ℕ)
     → missing (mux_of mode.blender_mux).p a ≡ false → (a ≡ true → memory ≡ memory')
     → alone mode color.a n (Known i) ≡ true → alone mode color.a n (Known j) ≡ true
     → blend_of mode k color memory shade n i ≡ blend_of mode k color memory' shade n j
 unfolding blend_of
-alone-blend-same mode k color shade n a memory memory' i j there h here too =
+alone_blend_same mode k color shade n a memory memory' i j there h here too =
     rw (here, too)
     (same_bytes mode.force_blend (factor_a x.a color.a k.fog.a shade) color.a true (same_source x.p k color a h there) (λ t. never (sym t)) (λ t. never (sym t)))
   where
@@ -224,11 +224,11 @@ alone-blend-same mode k color shade n a memory memory' i j there h here too =
     x = mux_of mode.blender_mux
 
 -- and where P is the memory's colour, they are that colour's
-pub alone-blend-memory :
+pub alone_blend_memory :
     (mode : RenderMode) (k : Combiner) (color : Rgba) (shade : Float) (n : ℕ) (memory : Rgba) (i : ℕ)
     → (mux_of mode.blender_mux).p ≡ 1 → alone mode color.a n (Known i) ≡ true → (blend_of mode k color memory shade n i).r ≡ byte_of memory.r
 unfolding blend_of bytes_of mixed_of
-alone-blend-memory mode k color shade n memory i e stands =
+alone_blend_memory mode k color shade n memory i e stands =
     let x = mux_of mode.blender_mux in
     let a = factor_a x.a color.a k.fog.a shade in
     λ t. byte_of (mixed_of (stands t) mode.force_blend (source_of (e t) k color memory).r a (source_of x.m k color memory).r (factor_b x.b a i))

@@ -29,11 +29,11 @@ unshaded k alpha fog s t e =
     (λ i. cond (eqb k 0) alpha (cond (eqb k 1) fog (cond (e i) s f0))) ∙ sym (λ i. cond (eqb k 0) alpha (cond (eqb k 1) fog (cond (e i) t f0)))
 
 -- a blend whose A is another does not turn on it
-pub unshaded-blend :
+pub unshaded_blend :
     (mode : RenderMode) (k : Combiner) (rgba memory : Rgba) (s t : Float) (n c : ℕ) → eqb (mux_of mode.blender_mux).a 2 ≡ false
     → blend_of mode k rgba memory s n c ≡ blend_of mode k rgba memory t n c
 unfolding blend_of
-unshaded-blend mode k rgba memory s t n c e =
+unshaded_blend mode k rgba memory s t n c e =
     let x = mux_of mode.blender_mux in
     let a = unshaded x.a rgba.a k.fog.a s t e in
     λ i.
@@ -104,13 +104,13 @@ uncovered k s t c d e h =
 
 module _ (mode : RenderMode) (k : Combiner) (rgba memory : Rgba) (shade : Float) (n c : ℕ) (o : Layered mode rgba.a) where
   -- and its bytes are those of the sums
-  pub layer-blend :
+  pub layer_blend :
       let bytes = blend_of mode k rgba memory shade n c in
       let l = layer_of mode k rgba in
       (bytes.r ≡ byte_of (add binary32 l.r (mul binary32 memory.r l.share)))
       × ((bytes.g ≡ byte_of (add binary32 l.g (mul binary32 memory.g l.share))) × (bytes.b ≡ byte_of (add binary32 l.b (mul binary32 memory.b l.share))))
   unfolding blend_of bytes_of mixed_of own_of layer_of
-  layer-blend =
+  layer_blend =
       let x = mux_of mode.blender_mux in
       let a = unshaded x.a rgba.a k.fog.a shade f0 o.shade in
       let p = own_source x.p k rgba memory o.own in

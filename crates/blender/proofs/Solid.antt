@@ -65,12 +65,12 @@ module _
     (own : eqb (mux_of mode.blender_mux).p 1 ≡ false)
     (alone : alone mode rgba.a n (Known c) ≡ true) where
   -- and the bytes of a pixel that stands alone are P's
-  pub alone-blend :
+  pub alone_blend :
       let bytes = blend_of mode combiner rgba memory shade n c in
       let p = own_of mode combiner rgba in
       (bytes.r ≡ byte_of p.r) × ((bytes.g ≡ byte_of p.g) × (bytes.b ≡ byte_of p.b))
   unfolding blend_of bytes_of mixed_of own_of
-  alone-blend =
+  alone_blend =
       let x = mux_of mode.blender_mux in
       let a = factor_a x.a rgba.a combiner.fog.a shade in
       let m = source_of x.m combiner rgba memory in

@@ -20,10 +20,10 @@ numbers_of_lem : (r : Run) (ws ns : List ℕ) → ns ≡ (run_means r ws ns).num
 numbers_of_lem (Read n) ws ns = refl
 numbers_of_lem (Refused k) ws ns = refl
 
-pub ran-as :
+pub ran_as :
     (r : Run) {c : RanAnswer} (ws ns : List ℕ) {a : RunAnswer} → c ≡ ran_answer (run_means r [] []) → run_means r ws ns ≡ a
     → (c ≡ ran_answer a) × ((ws ≡ a.words) × (ns ≡ a.numbers))
-ran-as r ws ns e p = (
+ran_as r ws ns e p = (
   e ∙ ran_of r ws ns ∙ ap ran_answer p,
   (words_of r ws ns ∙ ap (λ (a : RunAnswer). a.words) p, numbers_of_lem r ws ns ∙ ap (λ (a : RunAnswer). a.numbers) p),
 )

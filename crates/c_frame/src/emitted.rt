@@ -1,6 +1,6 @@
 // The C interface of the emitted pixels of a draw, over plain values: one by its place, and a run of them into two lent slices.
-ghost use Rattle.frame.specs.Frame.{frame_of};
 ghost use Rattle.std.specs.Prelude.{◌≡◌, List, ℕ};
+ghost use Rattle.frame.specs.Frame.{frame_of};
 ghost use Rattle.frame.specs.Lent.{old, new};
 ghost use Rattle.frame_emitted.specs.Emitted.{pixel_means, emitted_answer};
 ghost use Rattle.frame_emitted.specs.Run.{pixels_means, emitted_run};

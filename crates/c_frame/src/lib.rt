@@ -2,8 +2,8 @@
 // gives the calls their C names.
 #![tactic(auto)]
 
-ghost use Rattle.frame.specs.Frame.{frame_of};
 ghost use Rattle.std.specs.Prelude.{◌≡◌, []};
+ghost use Rattle.frame.specs.Frame.{frame_of};
 ghost use Rattle.frame.specs.Lent.{old, new, before, after};
 ghost use Rattle.frame_draw.specs.Draw.{drawn_means, draw_answer, draw_frame};
 ghost use Rattle.words_read.specs.Read.{word_means, read_answer};

@@ -1,6 +1,6 @@
 // The C interface of the frame: a draw, its emitted pixels, a word read and a run of words over three lent slices of colour bytes, coverages and marks.
-ghost use Rattle.frame.specs.Frame.{frame_of};
 ghost use Rattle.std.specs.Prelude.{◌≡◌};
+ghost use Rattle.frame.specs.Frame.{frame_of};
 ghost use Rattle.frame.specs.Lent.{old, new, before, after};
 ghost use Rattle.frame_draw.specs.Draw.{draw_answer, draw_frame};
 ghost use Rattle.words_read.specs.Read.{read_answer};

@@ -70,21 +70,21 @@ mark_same m c d h = ap (λ (t : Bool). leb m highest_mark && t) (go (coverage_ma
     go true h = ap (λ (k : ℕ). leb k 7) (h refl)
     go false h = refl
 
-marks-same :
+marks_same :
     (cs ds ms : List ℕ) → length cs ≡ length ds → ((p : ℕ) → coverage_marked (get_or ms p 0) ≡ true → get_or cs p 0 ≡ get_or ds p 0)
     → marks_ok cs ms ≡ marks_ok ds ms
 unfolding marks_ok
-marks-same [] [] ms e h = refl
-marks-same [] (d ∷ ds) ms e h = absurd (omega arith)
-marks-same (c ∷ cs) [] ms e h = absurd (omega arith)
-marks-same (c ∷ cs) (d ∷ ds) [] e h = refl
-marks-same (c ∷ cs) (d ∷ ds) (m ∷ ms) e h =
-    ap₂ (λ (a b : Bool). a && b) (mark_same m c d (h 0)) (marks-same cs ds ms (omega arith) (λ (p : ℕ). h (suc p)))
+marks_same [] [] ms e h = refl
+marks_same [] (d ∷ ds) ms e h = absurd (omega arith)
+marks_same (c ∷ cs) [] ms e h = absurd (omega arith)
+marks_same (c ∷ cs) (d ∷ ds) [] e h = refl
+marks_same (c ∷ cs) (d ∷ ds) (m ∷ ms) e h =
+    ap₂ (λ (a b : Bool). a && b) (mark_same m c d (h 0)) (marks_same cs ds ms (omega arith) (λ (p : ℕ). h (suc p)))
 
 module _ (w h : ℕ) {f g : Frame} (a : Alike f g) where
   pub refusal_same : frame_refusal f w h ≡ frame_refusal g w h
   unfolding frame_refusal
-  refusal_same = rw (lengths, ← a.marks, marks-same f.coverages g.coverages f.marks a.coverages (λ (p : ℕ). (a.pixels p).coverage))
+  refusal_same = rw (lengths, ← a.marks, marks_same f.coverages g.coverages f.marks a.coverages (λ (p : ℕ). (a.pixels p).coverage))
     where
       lengths : lengths_ok f (w * h) ≡ lengths_ok g (w * h)
       lengths = rw (a.colors, a.coverages, a.marks)

@@ -71,16 +71,16 @@ module _ (cs ms : List ℕ) where
   pub marks_none : {i : ℕ} → length ms ≤ i → true ≡ marks_ok (drop i cs) (drop i ms)
   marks_none {i} h = marks_nil (drop i cs) ∙ ap (marks_ok (drop i cs)) (sym (drop_of_length-le ms h))
 
-  pub marks-more :
+  pub marks_more :
       {i : ℕ} → length cs ≡ length ms → i < length ms
       → marks_ok (drop i cs) (drop i ms) ≡ (mark_ok (get_or ms i 0) (get_or cs i 0) && marks_ok (drop (i + 1) cs) (drop (i + 1) ms))
   unfolding marks_ok
-  marks-more {i} e h = let k : i < length cs = omega arith in rw (add-one, drop-cons cs i 0, drop-cons ms i 0)
+  marks_more {i} e h = let k : i < length cs = omega arith in rw (add-one, drop-cons cs i 0, drop-cons ms i 0)
 
-  pub marks-part :
+  pub marks_part :
       {s e : ℕ} → s < e
       → marks_ok (drop s cs) (drop s ms) ≡ (marks_ok (take (e - s) (drop s cs)) (take (e - s) (drop s ms)) && marks_ok (drop e cs) (drop e ms))
-  marks-part {s} {e} h =
+  marks_part {s} {e} h =
       let k : s + (e - s) ≡ e = omega arith in
       marks_parts (e - s) (drop s cs) (drop s ms) ∙ simp (drop-drop, k)
 
@@ -154,18 +154,18 @@ marks_unmarked (c ∷ cs) (m ∷ ms) p q =
     let s = every coverage_unmarked ms in
     λ i. (sym (both_left a r p) i && (sym (both_left b s q) i || leb c 7)) && marks_unmarked cs ms (both_right a r p) (both_right b s q) i
 
-pub marks-marked :
+pub marks_marked :
     (cs ms : List ℕ) → length cs ≡ length ms → every (at_most highest_mark) ms ≡ true → every coverage_marked ms ≡ true → every (at_most 7) cs ≡ marks_ok cs ms
 unfolding every marks_ok mark_ok
-marks-marked [] [] e p q = refl
-marks-marked [] (m ∷ ms) e p q = absurd (omega arith)
-marks-marked (c ∷ cs) [] e p q = absurd (omega arith)
-marks-marked (c ∷ cs) (m ∷ ms) e p q =
+marks_marked [] [] e p q = refl
+marks_marked [] (m ∷ ms) e p q = absurd (omega arith)
+marks_marked (c ∷ cs) [] e p q = absurd (omega arith)
+marks_marked (c ∷ cs) (m ∷ ms) e p q =
     let a = leb m highest_mark in
     let b = coverage_marked m in
     let r = every (at_most highest_mark) ms in
     let s = every coverage_marked ms in
-    λ i. (sym (both_left a r p) i && (not (sym (both_left b s q) i) || leb c 7)) && marks-marked cs ms (omega arith) (both_right a r p) (both_right b s q) i
+    λ i. (sym (both_left a r p) i && (not (sym (both_left b s q) i) || leb c 7)) && marks_marked cs ms (omega arith) (both_right a r p) (both_right b s q) i
 
 -- ---- numbers 1 to 3
 size_le : (n : ℕ) → size_ok n ≡ true → n ≤ 1024

@@ -22,7 +22,7 @@ Shown A = Both (Bor (List A)) (Bor (List A))
 abbrev pub shown : {A : Type 0} → Shown A → List A
 shown s = s.entry.now
 
--- the lent frame in a `requires`
+-- a frame that is lent to be written, in a `requires`; one that is lent to be read is `frame_of` of what its slices hold
 abbrev pub lent : MutBor (List ℕ) → MutBor (List ℕ) → MutBor (List ℕ) → Frame
 lent colors coverages marks = frame_of colors.now coverages.now marks.now
 

@@ -1,7 +1,7 @@
 // Why a call on the frame is turned away: numbers 1 to 3 (docs/RULES.md, The numbers), the first that holds.
-ghost use Rattle.frame.specs.Frame.{frame_of};
 ghost use Rattle.std.specs.Prelude.{◌≡◌, true, ◌&&◌, ◌*◌, ◌<◌, ◌≤◌, eqb, length, get_or};
 ghost use Rattle.frame_pixel.specs.Marks.{highest_mark, coverage_marked};
+ghost use Rattle.frame.specs.Frame.{frame_of};
 ghost use Rattle.frame.specs.Loads.{CoverageThere};
 ghost use Rattle.frame.specs.Checks.{size_ok, sizes_ok, mark_ok, marks_ok, frame_refusal};
 ghost use Rattle.frame.specs.Finding.{every, at_most, Sees, Tells};

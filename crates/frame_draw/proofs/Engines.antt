@@ -23,7 +23,7 @@ told_means (Refused zero) p = absurd (omega arith)
 told_means (Refused (suc k)) p = refl
 
 -- Of one draw on one frame there is one outcome, so whichever engine is chosen, answer and frame are the same.
-pub either-engine :
+pub either_engine :
     {d : DrawArgs} {w h : ℕ} {f : Frame} {r s : Drawn} {g g' : Frame} → Outcome d w h f r g → Outcome d w h f s g' → (r ≡ s) × (g ≡ g')
-either-engine {r = r} {s = s} a b =
+either_engine {r = r} {s = s} a b =
     (sym (told_means r a.number) ∙ ap told (a.answer ∙ sym b.answer) ∙ told_means s b.number, a.frame ∙ sym b.frame)

@@ -1,11 +1,11 @@
 // A draw over the lent frame (docs/RULES.md, A draw). What it is turned away for is checked before anything is written.
 #![tactic(auto)]
 
-ghost use Rattle.frame.specs.Frame.{frame_of};
 ghost use Rattle.std.specs.Prelude.{◌≡◌, true, ◌≤◌, length};
 ghost use Rattle.raster_pixel.specs.Admitted.{admitted_of};
 ghost use Rattle.raster_pixel.specs.Area.{Sized};
 ghost use Rattle.raster_pixel.specs.Emitted.{geometry_emits};
+ghost use Rattle.frame.specs.Frame.{frame_of};
 ghost use Rattle.frame.specs.Lent.{lent, before, after};
 ghost use Rattle.frame_paint.specs.Pixel.{DrewOn, Room};
 ghost use Rattle.frame_paint.specs.Paint.{Mixed};

@@ -17,7 +17,7 @@ use Rattle.raster_pixel.specs.Admitted.{admitted_of}
 use Rattle.raster_pixel.specs.Area.{Sized}
 use Rattle.raster_pixel.specs.Emitted.{Emit}
 use Rattle.raster_pixel.specs.Near.{TrianglesNear}
-use Rattle.raster_pixel.proofs.Counts.{geometry-most}
+use Rattle.raster_pixel.proofs.Counts.{geometry_most}
 use Rattle.raster_pixel.proofs.Near.{admitted_near}
 use Rattle.raster_pixel.proofs.Parts.{each_length, each_at}
 use Rattle.raster_emitted.specs.Masked.{Masked, masked_of, no_pixel}
@@ -53,10 +53,10 @@ module _ (d : DrawArgs) (w h : ℕ) (f : Frame) (r : Accepted) (e : plan_by d w 
     unfolding emitted_answer
     pixel_refused k = (ap (λ (p : Plan). pixel_by p k) refused_plan, number_of d w h f refused_plan)
 
-    pub run-refused :
+    pub run_refused :
         (first : ℕ) (ps ms : List ℕ) → (pixels_means (listed.Refused n) ps ms ≡ emitted_run d w h f first ps ms) × NumberedPixels (listed.Refused n)
     unfolding emitted_run draw_answer
-    run-refused first ps ms =
+    run_refused first ps ms =
         let l = number_of d w h f refused_plan in (
           go n l (cond (eqb (length ps) (length ms)) 0 20) _
               ∙ (λ i. pixels_by (or_else (answer_by (refused_plan i)).number (cond (eqb (length ps) (length ms)) 0 20)) first (answer_by (refused_plan i)).pixels (singles d w h f first (length ms)) ps ms),
@@ -88,7 +88,7 @@ module _ (d : DrawArgs) (w h : ℕ) (f : Frame) (r : Accepted) (e : plan_by d w 
     few =
         let y = drawable d w h f r e er in
         let z = y.1.1.0 in
-        omega (arith, geometry-most d.scissor z.width_small z.height_small d.mode x d.cull d.vertices d.present d.indices d.geometry, y.0.0)
+        omega (arith, geometry_most d.scissor z.width_small z.height_small d.mode x d.cull d.vertices d.present d.indices d.geometry, y.0.0)
 
     -- what the code needs of the draw
     pub listable : (Sized d.scissor w h × Mixed x) × ((d.geometry ≡ Triangles → TrianglesNear d.vertices d.present d.indices) × (length (masks_of d w h) ≤ largest_count))
@@ -110,10 +110,10 @@ module _ (d : DrawArgs) (w h : ℕ) (f : Frame) (r : Accepted) (e : plan_by d w 
     unfolding draw_answer es
     count_is = ap length (sym masks_are) ∙ length-map es masked_of ∙ ap (λ (p : Plan). (answer_by p).pixels) plan
 
-    pub pixel-accepted :
+    pub pixel_accepted :
         (a : Emitted) (k : ℕ) → pixel_means a ≡ pixel_of (get_or (masks_of d w h) k no_pixel) → FoundAt (masks_of d w h) k a
         → (pixel_means a ≡ emitted_answer d w h f k) × NumberedPixel a
-    pixel-accepted a k p q = let e = p ∙ answer_at_lem k in (e, right a e q)
+    pixel_accepted a k p q = let e = p ∙ answer_at_lem k in (e, right a e q)
       where
         right : (a : Emitted) → pixel_means a ≡ emitted_answer d w h f k → FoundAt (masks_of d w h) k a → NumberedPixel a
         right (emitted.Pixel p m) e q =
@@ -123,11 +123,11 @@ module _ (d : DrawArgs) (w h : ℕ) (f : Frame) (r : Accepted) (e : plan_by d w 
         right (emitted.Refused n) e q = absurd q
 
     -- slices of two lengths
-    pub run-unequal :
+    pub run_unequal :
         (first : ℕ) (ps ms : List ℕ) → (length ps ≡ length ms → ⊥)
         → (pixels_means (listed.Refused 20) ps ms ≡ emitted_run d w h f first ps ms) × NumberedPixels (listed.Refused 20)
     unfolding emitted_run draw_answer
-    run-unequal first ps ms n = (
+    run_unequal first ps ms n = (
       (λ i. pixels_by (cond (sym (ne_eqb (length ps) (length ms) n) i) 0 20) first (length es) (singles d w h f first (length ms)) ps ms)
           ∙ (λ i. pixels_by (or_else (answer_by (plan i)).number (cond (eqb (length ps) (length ms)) 0 20)) first (answer_by (plan i)).pixels (singles d w h f first (length ms)) ps ms),
       omega arith,
@@ -153,11 +153,11 @@ module _ (d : DrawArgs) (w h : ℕ) (f : Frame) (r : Accepted) (e : plan_by d w 
       slot_at : (i : ℕ) → i < length ms → record { number = 0; pixel = get_or ps' i 0; mask = get_or ms' i 0 } ≡ emitted_answer d w h f (first + i)
       slot_at i p = ap pixel_of (l.slots i p) ∙ answer_at_lem (first + i)
 
-      pub run-accepted :
+      pub run_accepted :
           (ps : List ℕ) {m : ℕ} → length ps ≡ length ms → m ≡ min (length ms') (n - first)
           → (pixels_means (listed.Pixels m n) ps' ms' ≡ emitted_run d w h f first ps ms) × NumberedPixels (listed.Pixels m n)
       unfolding emitted_run draw_answer
-      run-accepted ps {m} equal em =
+      run_accepted ps {m} equal em =
           let count : n ≡ length es = l.count ∙ ap length (sym masks_are) ∙ length-map es masked_of in
           let slots : m ≡ min (length ms) (length es - first) = omega (arith, em, l.masks_long, count) in
           let pixels = column (λ (a : PixelAnswer). a.pixel) ps' l.pixels_long (λ i p. ap (λ (a : PixelAnswer). a.pixel) (slot_at i p)) refl in

@@ -49,10 +49,10 @@ module _ (d : DrawArgs) (w h : ℕ) (f : Frame) (k : ℕ) where
 
 -- Of a run that is accepted, the slots that count as listed are those that have a pixel: slot i is the single answer to first + i.
 module _ (d : DrawArgs) (w h : ℕ) (f : Frame) (first : ℕ) (ps ms : List ℕ) where
-  pub listed-there :
+  pub listed_there :
       (i : ℕ) → i < (emitted_run d w h f first ps ms).listed → (i < length ms) × (0 < (emitted_answer d w h f (first + i)).mask)
   unfolding emitted_run
-  listed-there i = go (pixels_refusal d w h f ps ms)
+  listed_there i = go (pixels_refusal d w h f ps ms)
     where
       go :
           (n : ℕ) → i < (pixels_by n first (draw_answer d w h f).pixels (singles d w h f first (length ms)) ps ms).listed
@@ -60,11 +60,11 @@ module _ (d : DrawArgs) (w h : ℕ) (f : Frame) (first : ℕ) (ps ms : List ℕ)
       go zero l = (omega arith, (pixel_there d w h f (first + i) (omega arith)).1)
       go (suc n) l = absurd (omega arith)
 
-  pub listed-past :
+  pub listed_past :
       (emitted_run d w h f first ps ms).number ≡ 0 → (i : ℕ) → i < length ms → (emitted_run d w h f first ps ms).listed ≤ i
       → (emitted_answer d w h f (first + i)).mask ≡ 0
   unfolding emitted_run
-  listed-past z i l = go (pixels_refusal d w h f ps ms) z
+  listed_past z i l = go (pixels_refusal d w h f ps ms) z
     where
       go :
           (n : ℕ) → (pixels_by n first (draw_answer d w h f).pixels (singles d w h f first (length ms)) ps ms).number ≡ 0

@@ -32,9 +32,9 @@ pixel-told (emitted.Refused zero) l = absurd (omega arith)
 pixel-told (emitted.Refused (suc n)) l = refl
 
 -- To one question on one frame there is one answer, so whichever engine is chosen, it is the same.
-pub either-engine-pixel :
+pub either_engine_pixel :
     {d : DrawArgs} {w h : ℕ} {f : Frame} {k : ℕ} {r s : Emitted} → PixelOutcome d w h f k r → PixelOutcome d w h f k s → r ≡ s
-either-engine-pixel {r = r} {s = s} a b = sym (pixel-told r a.number) ∙ ap pixel_told (a.answer ∙ sym b.answer) ∙ pixel-told s b.number
+either_engine_pixel {r = r} {s = s} a b = sym (pixel-told r a.number) ∙ ap pixel_told (a.answer ∙ sym b.answer) ∙ pixel-told s b.number
 
 -- ---- a run of them
 abbrev listed_told_by : ℕ → ℕ → ℕ → Listed
@@ -55,10 +55,10 @@ slices (listed.Pixels n m) ps ms = (refl, refl)
 slices (listed.Refused k) ps ms = (refl, refl)
 
 -- Of one run on one frame there is one answer, and one content of the two slices afterwards.
-pub either-engine-pixels :
+pub either_engine_pixels :
     {d : DrawArgs} {w h : ℕ} {f : Frame} {first : ℕ} {ps ms : List ℕ} {r s : Listed} {ps₁ ps₂ ms₁ ms₂ : List ℕ}
     → PixelsOutcome d w h f first ps ms r ps₁ ms₁ → PixelsOutcome d w h f first ps ms s ps₂ ms₂ → (r ≡ s) × ((ps₁ ≡ ps₂) × (ms₁ ≡ ms₂))
-either-engine-pixels {r = r} {s = s} {ps₁ = ps₁} {ps₂ = ps₂} {ms₁ = ms₁} {ms₂ = ms₂} a b =
+either_engine_pixels {r = r} {s = s} {ps₁ = ps₁} {ps₂ = ps₂} {ms₁ = ms₁} {ms₂ = ms₂} a b =
     let e : pixels_means r ps₁ ms₁ ≡ pixels_means s ps₂ ms₂ = a.answer ∙ sym b.answer in
     let p = slices r ps₁ ms₁ in
     let q = slices s ps₂ ms₂ in (

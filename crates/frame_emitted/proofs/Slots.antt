@@ -26,11 +26,11 @@ module _ {es : List Masked} (v : Window) {n k : ℕ} {s t : Slots} (first : v.fi
   past h = ap pixel_of (sym (get_or-eq_default es no_pixel (omega (arith, d.count))))
 
 -- ---- a run
-pub run-listed :
+pub run_listed :
     {es : List Masked} (v : Window) {n m : ℕ} {s t : Slots} {ps ms : List ℕ} → length s.pixels ≡ length s.masks → v.limit ≡ largest_count → length es ≤ largest_count
     → ListedPart v es 0 n s t → m ≡ min (length t.masks) (n - v.first) → Filled (λ (i : ℕ). 0) 0 m (length t.masks) t (slots_of ps ms)
     → ListedAll es v.first n s.masks ps ms
-run-listed {es} v {n} {m} {s} {t} {ps} {ms} equal limit few d em c =
+run_listed {es} v {n} {m} {s} {t} {ps} {ms} equal limit few d em c =
     record {
       count = omega (arith, d.count);
       pixels_long = c.pixels ∙ d.pixels ∙ equal;

@@ -2,7 +2,6 @@
 // nothing is drawn.
 #![tactic(auto)]
 
-ghost use Rattle.frame.specs.Frame.{frame_of};
 ghost use Rattle.std.specs.Prelude.{◌≡◌, ◌+◌, ◌≤◌, min, length, get_or};
 ghost use Rattle.raster_pixel.specs.declared.Geometry.TheVariants.{Triangles};
 ghost use Rattle.raster_pixel.specs.Area.{Sized};
@@ -10,6 +9,7 @@ ghost use Rattle.raster_pixel.specs.Near.{TrianglesNear};
 ghost use Rattle.raster_emitted.specs.Listed.{ReadyIn, ListedIn};
 ghost use Rattle.raster_emitted.specs.Masked.{no_pixel};
 ghost use Rattle.raster_emitted.specs.Shapes.{geometry_masks};
+ghost use Rattle.frame.specs.Frame.{frame_of};
 ghost use Rattle.frame.specs.Lent.{old, new};
 ghost use Rattle.frame_paint.specs.Paint.{Mixed};
 ghost use Rattle.frame_draw.specs.Draw.{draw_of};

@@ -97,11 +97,11 @@ module _ (mode : RenderMode) (k : Combiner) (c : ℕ → List Emit) (a b : ℕ) 
   drawing_done h l = record { ran = going_done (step_frame mode k) c a b f₀ h l.going; fit = l.fit }
 
 -- the same pixels, said otherwise
-pub drew-as :
+pub drew_as :
     {mode : RenderMode} {k : Combiner} {m : ℕ} {ds es : List Emit} {f g : Frame} {n : ℕ}
     → ds ≡ es → Drew mode k m ds f g n → Drew mode k m es f g n
-drew-as {mode} {k} {m} {ds} {es} {f} {g} {n} e d = subst (λ (l : List Emit). Drew mode k m l f g n) e d
+drew_as {mode} {k} {m} {ds} {es} {f} {g} {n} e d = subst (λ (l : List Emit). Drew mode k m l f g n) e d
 
-pub drew-count :
+pub drew_count :
     {mode : RenderMode} {k : Combiner} {m : ℕ} {es : List Emit} {f g : Frame} {n r : ℕ} → n ≡ r → Drew mode k m es f g n → Drew mode k m es f g r
-drew-count {mode} {k} {m} {es} {f} {g} e d = subst (λ (j : ℕ). Drew mode k m es f g j) e d
+drew_count {mode} {k} {m} {es} {f} {g} e d = subst (λ (j : ℕ). Drew mode k m es f g j) e d

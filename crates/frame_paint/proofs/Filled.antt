@@ -90,10 +90,10 @@ module _ (full : Full) (f : Frame) (p : ℕ) (place : p < length f.marks) (long 
 
 -- ---- that is a step
 module _ {mode : RenderMode} {k : Combiner} {color : Rgba} {full : Full} (o : FullOf mode k color full) (e : Enough mode full) where
-  pub filled-drew :
+  pub filled_drew :
       {n p : ℕ} {f g : Frame} → Fit n f → g ≡ row.filled_at full f p → Drew mode k n (row.full_pixel color p) f g 1
   unfolding step_frame
-  filled-drew {n} {p} {f} {g} fit h =
+  filled_drew {n} {p} {f} {g} fit h =
       let emit = emit_of p 255 color f1 in
       let t : g ≡ step_frame mode k f emit = h ∙ ap (put_pixel f p) (full-step mode k (source_of emit) (pixel_at f p) ones_full o e (fit.sound p)) in
       record {

@@ -34,11 +34,11 @@ full_shown : (antialias : Bool) → shown antialias 255 ≡ true
 full_shown true = refl
 full_shown false = refl
 
-pub full-row :
+pub full_row :
     (paint : Paint) (row : ShadeRow) (e : Edges) (w y x : ℕ) {mask : ℕ} {flat : Bool} → flat ≡ true → mask ≡ 255
     → full_at paint.color w y x ≡ pixel_of paint.mode.antialias mask (hue_of paint.resolved paint.color flat row x) w y x
 unfolding pixel_of hue_of
-full-row paint row e w y x {mask} {flat} ef em =
+full_row paint row e w y x {mask} {flat} ef em =
     sym
     ((λ i. pixel_of paint.mode.antialias (em i) (hue_of paint.resolved paint.color (ef i) row x) w y x)
     ∙ (λ i. emits (cond (full_shown paint.mode.antialias i) (covered 255 (color_value paint.color) f1) Empty) (y * w + x)))

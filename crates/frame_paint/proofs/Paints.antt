@@ -104,15 +104,15 @@ module _ (paint : Paint) (e : Prepared paint) (even : paint.even ≡ true) where
       go false el false ed true eo h = opaque_step paint.mode paint.combiner paint.color n x s t (opaque paint.mode paint.color.a (sym e.full.sure ∙ eo))
       go false el false ed false eo h = never h
 
-  pub any-shade :
+  pub any_shade :
       (f : Frame) (pixel mask : ℕ) (s t : Float)
       → step_frame paint.mode paint.combiner f (emit_of pixel mask paint.color s) ≡ step_frame paint.mode paint.combiner f (emit_of pixel mask paint.color t)
   unfolding step_frame
-  any-shade f pixel mask s t = ap (put_pixel f pixel) (any_step (ones_of mask) s t (pixel_at f pixel))
+  any_shade f pixel mask s t = ap (put_pixel f pixel) (any_step (ones_of mask) s t (pixel_at f pixel))
 
 -- what a paint draws is drawn with the mode and the combiner that it was made of
-pub by-paint :
+pub by_paint :
     {q mode : RenderMode} {j k : Combiner} {m n : ℕ} {f g : Frame} → q ≡ mode → j ≡ k → (es : RenderMode → Combiner → List Emit)
     → Drew q j m (es q j) f g n → Drew mode k m (es mode k) f g n
-by-paint {q} {mode} {j} {k} {m} {n} {f} {g} eq ek es d =
+by_paint {q} {mode} {j} {k} {m} {n} {f} {g} eq ek es d =
     subst (λ (x : RenderMode). Drew x k m (es x k) f g n) eq (subst (λ (x : Combiner). Drew q x m (es q x) f g n) ek d)

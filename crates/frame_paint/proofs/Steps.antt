@@ -17,7 +17,7 @@ use Rattle.frame_pixel.specs.Marks.{color_marked, coverage_marked, coverage_of}
 use Rattle.frame_pixel.specs.Rules.{pixel_step}
 use Rattle.blender.specs.Blend.{or_zero}
 use Rattle.frame_pixel.specs.Alike.{AlikePixel}
-use Rattle.frame_pixel.proofs.Alike.{pixel_alike, kept-colors, kept_coverage}
+use Rattle.frame_pixel.proofs.Alike.{pixel_alike, kept_colors, kept_coverage}
 use Rattle.combiner_resolved.specs.Resolved.{color_value}
 use Rattle.raster_pixel.specs.declared.Fragment.TheVariants.{Empty}
 use Rattle.raster_pixel.specs.Emitted.{shown, covered, emits}
@@ -73,10 +73,10 @@ three_back l i h =
     ∙ set_back l (i + 2) h
 
 module _ (f : Frame) (p : ℕ) (x y : Pixel) (a : AlikePixel x y) (room : 3 * p + 2 < length f.colors) (place : p < length f.coverages) where
-  known-colors :
+  known_colors :
       (color_marked y.mark ≡ false → (y.red ≡ get_or f.colors (3 * p) 0) × ((y.green ≡ get_or f.colors (3 * p + 1) 0) × (y.blue ≡ get_or f.colors (3 * p + 2) 0)))
       → (put_known f p x).colors ≡ (put_pixel f p y).colors
-  known-colors kept = go (color_marked x.mark) refl
+  known_colors kept = go (color_marked x.mark) refl
     where
       go :
           (b : Bool) → color_marked x.mark ≡ b
@@ -95,18 +95,18 @@ module _ (f : Frame) (p : ℕ) (x y : Pixel) (a : AlikePixel x y) (room : 3 * p 
 
 module _ (mode : RenderMode) (k : Combiner) (f : Frame) (pixel mask : ℕ) (color : Rgba) (shade : Float) where
   -- a step on what is known, stored as far as it then is known, is a step of the frame
-  pub stored-known :
+  pub stored_known :
       {n : ℕ} {b x : Pixel} {g : Frame} → n ≡ ones_of mask → b ≡ known_pixel (pixel_at f pixel)
       → x ≡ pixel_step mode k (record { color = color; shade_alpha = shade; count = n }) b
       → g ≡ put_known f pixel x → 3 * pixel + 2 < length f.colors → pixel < length f.coverages
       → g ≡ step_frame mode k f (emit_of pixel mask color shade)
-  stored-known {n} {b} {x} hn hb hx hg room place =
+  stored_known {n} {b} {x} hn hb hx hg room place =
       let s : Source = record { color = color; shade_alpha = shade; count = n } in
       let c = pixel_at f pixel in
       let y = pixel_step mode k s c in
       let a : AlikePixel x y = subst (λ (z : Pixel). AlikePixel z y) (sym (hx ∙ ap (pixel_step mode k s) hb)) (pixel_alike mode k s (known_pixel c) c (known_alike c)) in
       hg
-      ∙ (λ i. frame_of (known-colors f pixel x y a room place (kept-colors mode k s c) i) (known_coverages f pixel x y a room place (kept_coverage mode k s c) i) (set f.marks pixel (a.mark i)))
+      ∙ (λ i. frame_of (known_colors f pixel x y a room place (kept_colors mode k s c) i) (known_coverages f pixel x y a room place (kept_coverage mode k s c) i) (set f.marks pixel (a.mark i)))
       ∙ stored mode k f pixel mask color shade hn refl
 
 -- ---- a pixel with these samples: nothing where it is not shown, and else one step
@@ -117,12 +117,12 @@ module _ (mode : RenderMode) (k : Combiner) (mask : ℕ) (hue : Hue) (w y x : �
       subst (λ (b : Bool). Drew mode k n (emits (cond b (covered mask (color_value hue.color) hue.shade_alpha) Empty) (y * w + x)) f f 0) (sym h)
       (record { ran = record { state = refl; count = refl }; fit = fit })
 
-  pub pixel-one :
+  pub pixel_one :
       {g : Frame} → shown mode.antialias mask ≡ true → (0 < mask) × (mask < 256)
       → g ≡ step_frame mode k f (emit_of (y * w + x) mask hue.color hue.shade_alpha)
       → Drew mode k n (pixel_of mode.antialias mask hue w y x) f g 1
   unfolding pixel_of
-  pixel-one {g} h c t =
+  pixel_one {g} h c t =
       subst (λ (b : Bool). Drew mode k n (emits (cond b (covered mask (color_value hue.color) hue.shade_alpha) Empty) (y * w + x)) f g 1) (sym h)
       (record {
         ran = record { state = t; count = refl };

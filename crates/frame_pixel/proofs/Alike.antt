@@ -123,11 +123,11 @@ module _ (mode : RenderMode) (k : Combiner) (s : Source) (x : Pixel) where
   mark_after = mark_le (known_after mode s x) (coverage_after mode s x)
 
   -- what is not known after it is as it was
-  pub kept-colors :
+  pub kept_colors :
       color_marked (pixel_step mode k s x).mark ≡ false
       → ((pixel_step mode k s x).red ≡ x.red) × (((pixel_step mode k s x).green ≡ x.green) × ((pixel_step mode k s x).blue ≡ x.blue))
   unfolding pixel_step assembled
-  kept-colors h =
+  kept_colors h =
       let colors = colors_stay mode k s x (sym (color_of_mark (known_after mode s x) (coverage_after mode s x)) ∙ h) in
       (ap (λ (c : Colors). c.red) colors, (ap (λ (c : Colors). c.green) colors, ap (λ (c : Colors). c.blue) colors))
 

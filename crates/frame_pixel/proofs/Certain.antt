@@ -18,7 +18,7 @@ use Rattle.blender.specs.Mux.{mux_of}
 use Rattle.blender.specs.Coverage.{overflow, destination_of}
 use Rattle.blender.specs.Known.{reject, missing}
 use Rattle.blender.specs.Blend.{or_zero}
-use Rattle.blender.proofs.Knows.{Less, alone_same, blend-same, full_alone, alone-blend-same, alone-blend-memory}
+use Rattle.blender.proofs.Knows.{Less, alone_same, blend_same, full_alone, alone_blend_same, alone_blend_memory}
 use Rattle.frame_pixel.specs.declared.Pixel.{Pixel}
 use Rattle.frame_pixel.specs.declared.Colors.{Colors}
 use Rattle.frame_pixel.specs.Marks.{color_marked, coverage_marked, unknown}
@@ -91,13 +91,13 @@ module _ (mode : RenderMode) (k : Combiner) (s : Source) (x : Pixel)
       go (Known c) t = never t
 
   -- over whatever x may really be, the colours are F3's over any coverage that overflows as its own does
-  colors-really :
+  colors_really :
       (y : Pixel) → Completes y x → (c : ℕ) → overflow s.count y.coverage ≡ overflow s.count c → colors_after mode k s y ≡ colors_over mode k s x c
   unfolding rule_f1 rule_f3
-  colors-really y q c e =
+  colors_really y q c e =
       all_colors mode k s y q.all
       ∙ ap (λ (v : Bytes). record { red = v.r; green = v.g; blue = v.b })
-      (blend-same mode k s.color s.shade_alpha s.count (coverage_at x) (color_marked x.mark)
+      (blend_same mode k s.color s.shade_alpha s.count (coverage_at x) (color_marked x.mark)
       (memory_of (color_marked y.mark) y) (memory_of (color_marked x.mark) x) y.coverage c said (memory_too y x q.knows)
       (less y.coverage) (less c) (alone_same mode s.color.a s.count y.coverage c e))
     where
@@ -110,7 +110,7 @@ module _ (mode : RenderMode) (k : Combiner) (s : Source) (x : Pixel)
     where
       at : (c : ℕ) → c ≤ 7 → colors_over mode k s x c ≡ v
       at c l =
-          sym (colors-really (with_coverage x c) (any x no_coverage c l) c refl)
+          sym (colors_really (with_coverage x c) (any x no_coverage c l) c refl)
           ∙ certain (with_coverage x c) (any x no_coverage c l)
 
   pub certain_doubt : 1 ≤ s.count → (v : Colors) → SameAtEnds mode k s x v → CertainColors mode k s x v
@@ -120,20 +120,20 @@ module _ (mode : RenderMode) (k : Combiner) (s : Source) (x : Pixel)
       n = s.count
 
       go : (b : Bool) → overflow n y.coverage ≡ b → colors_after mode k s y ≡ v
-      go true e = colors-really y q 7 (e ∙ sym (le-leb 8 (n + 7) (omega arith))) ∙ same.1
+      go true e = colors_really y q 7 (e ∙ sym (le-leb 8 (n + 7) (omega arith))) ∙ same.1
       go false e =
           let l = leb-false 8 (n + y.coverage) e in
-          colors-really y q 0 (e ∙ sym (lt-leb 8 (n + 0) (omega arith))) ∙ same.0
+          colors_really y q 0 (e ∙ sym (lt-leb 8 (n + 0) (omega arith))) ∙ same.0
 
 -- ---- a pixel with all eight samples that is not forced: it is never blended, so that it is P's colour, certain wherever P is known
-pub full-certain :
+pub full_certain :
     (mode : RenderMode) (k : Combiner) (s : Source) (x : Pixel) → mode.force_blend ≡ false → s.count ≡ 8
     → missing (mux_of mode.blender_mux).p (color_marked x.mark) ≡ false → CertainColors mode k s x (colors_over mode k s x 7)
 unfolding rule_f3
-full-certain mode k s x forced eight there y q =
+full_certain mode k s x forced eight there y q =
     all_colors mode k s y q.all
     ∙ ap (λ (v : Bytes). record { red = v.r; green = v.g; blue = v.b })
-    (alone-blend-same mode k s.color s.shade_alpha s.count (color_marked x.mark)
+    (alone_blend_same mode k s.color s.shade_alpha s.count (color_marked x.mark)
     (memory_of (color_marked y.mark) y) (memory_of (color_marked x.mark) x) y.coverage 7 there (memory_too y x q.knows)
     (full_alone mode s.color.a s.count y.coverage forced eight) (full_alone mode s.color.a s.count 7 forced eight))
 
@@ -169,7 +169,7 @@ module _ (mode : RenderMode) (k : Combiner) (s : Source) (x : Pixel)
   red_stays r =
       let y = with_red r in
       ap (λ (c : Colors). c.red) (all_colors mode k s y (red_completes r).all)
-      ∙ alone-blend-memory mode k s.color s.shade_alpha s.count (memory_of true y) y.coverage
+      ∙ alone_blend_memory mode k s.color s.shade_alpha s.count (memory_of true y) y.coverage
       (eqb-true (mux_of mode.blender_mux).p 1 (both_left (eqb (mux_of mode.blender_mux).p 1) (not (color_marked x.mark)) gone))
       (full_alone mode s.color.a s.count y.coverage forced eight)
 
@@ -198,7 +198,7 @@ module _ (mode : RenderMode) (k : Combiner) (s : Source) (x : Pixel) (doubt : ru
       go true false true r t = never t
       go false a true r t = never t
 
-  pub full-given-up :
+  pub full_given_up :
       s.count ≡ 8 → missing (mux_of mode.blender_mux).p (color_marked x.mark) ≡ false
       → (known_after mode s x ≡ false) × CertainColors mode k s x (colors_over mode k s x 7)
-  full-given-up eight there = (left_unknown, full-certain mode k s x not_forced eight there)
+  full_given_up eight there = (left_unknown, full_certain mode k s x not_forced eight there)

@@ -19,8 +19,8 @@ use Rattle.blender.specs.Known.{reject, color_known}
 use Rattle.blender.specs.Blend.{or_zero, blend_of}
 use Rattle.blender.specs.Joined.{is_known, or_zeros, joined}
 use Rattle.blender.specs.Layer.{layer_of}
-use Rattle.blender.proofs.Solid.{Opaque, opaque_known, alone-blend}
-use Rattle.blender.proofs.Layers.{Layered, layer_known, layer-blend, unshaded-blend}
+use Rattle.blender.proofs.Solid.{Opaque, opaque_known, alone_blend}
+use Rattle.blender.proofs.Layers.{Layered, layer_known, layer_blend, unshaded_blend}
 use Rattle.frame_pixel.specs.declared.Pixel.{Pixel}
 use Rattle.frame_pixel.specs.declared.Colored.{Colored}
 use Rattle.frame_pixel.specs.declared.Colors.{Colors}
@@ -51,7 +51,7 @@ module _ (mode : RenderMode) (k : Combiner) (s : Source) (x : Pixel) (o : Opaque
   unfolding colors_after rule_f3 own_colors
   opaque_colors =
       let c = or_zero (coverage_at x) in
-      let b = alone-blend mode k s.color (memory_of (color_marked x.mark) x) s.shade_alpha s.count c o.own (o.alone s.count (Known c)) in
+      let b = alone_blend mode k s.color (memory_of (color_marked x.mark) x) s.shade_alpha s.count c o.own (o.alone s.count (Known c)) in
       (λ i. cond (opaque_yes i) (rule_f3 mode k s (coverage_at x) (memory_of (color_marked x.mark) x)) (rule_f4 x))
       ∙ (λ i. record { red = b.0 i; green = b.1.0 i; blue = b.1.1 i })
 
@@ -73,7 +73,7 @@ module _ (mode : RenderMode) (k : Combiner) (s : Source) (x : Pixel) (o : Layere
   layer_stored : (marked : Bool) → marked ≡ true → rule_f3 mode k s (coverage_at x) (memory_of marked x) ≡ over_colors (layer_of mode k s.color) (rule_f4 x)
   unfolding rule_f3 memory_of over_colors
   layer_stored marked e =
-      let b = layer-blend mode k s.color (memory_of true x) s.shade_alpha s.count (or_zero (coverage_at x)) o in
+      let b = layer_blend mode k s.color (memory_of true x) s.shade_alpha s.count (or_zero (coverage_at x)) o in
       (λ i. rule_f3 mode k s (coverage_at x) (memory_of (e i) x)) ∙ (λ i. record { red = b.0 i; green = b.1.0 i; blue = b.1.1 i })
 
   pub layered_colors : colors_after mode k s x ≡ cond (color_marked x.mark) (over_colors (layer_of mode k s.color) (rule_f4 x)) (rule_f4 x)
@@ -96,7 +96,7 @@ module _ (mode : RenderMode) (k : Combiner) (color : Rgba) (n : ℕ) (x : Pixel)
   pub unshaded_step : (s t : Float) → eqb (mux_of mode.blender_mux).a 2 ≡ false → pixel_step mode k (shaded s) x ≡ pixel_step mode k (shaded t) x
   unfolding pixel_step known_after colors_after coverage_after rule_f1 rule_f2 rule_f3
   unshaded_step s t e =
-      let bytes = unshaded-blend mode k color (memory_of (color_marked x.mark) x) s t n (or_zero (coverage_at x)) e in
+      let bytes = unshaded_blend mode k color (memory_of (color_marked x.mark) x) s t n (or_zero (coverage_at x)) e in
       λ i.
       assembled (known_after mode (shaded s) x)
       (cond (known_after mode (shaded s) x) (record { red = (bytes i).r; green = (bytes i).g; blue = (bytes i).b }) (rule_f4 x))
@@ -129,11 +129,11 @@ module _ (mode : RenderMode) (k : Combiner) (s : Source) (x : Pixel) where
   unfolding known_after
   not_known h = no_colored (λ i. h i && not (rule_f2 mode s (coverage_at x)))
 
-  pub was-known :
+  pub was_known :
       rule_f1 mode s (coverage_at x) (color_marked x.mark) ≡ true → rule_f2 mode s (coverage_at x) ≡ false
       → ◌≡◌ {A = Colored} (record { known = true; colors = told }) (colored_of mode k s x)
   unfolding known_after colors_after
-  was-known h e = λ i. record { known = sym h i && not (sym e i); colors = cond (sym h i && not (sym e i)) told (rule_f4 x) }
+  was_known h e = λ i. record { known = sym h i && not (sym e i); colors = cond (sym h i && not (sym e i)) told (rule_f4 x) }
 
   module _ (sure : rule_f2 mode s (coverage_at x) ≡ false) (m : Memory) (known : is_known m ≡ color_marked x.mark) (color : or_zeros m ≡ memory_of (color_marked x.mark) x) where
     abbrev bytes : Bytes
@@ -159,11 +159,11 @@ module _ (mode : RenderMode) (k : Combiner) (s : Source) (x : Pixel) where
     answered true h = refl
     answered false h = never h
 
-    pub was-stored :
+    pub was_stored :
         {r g b a : ℕ} → joined mode k s (coverage_at x) m ≡ Stored r g b a
         → ◌≡◌ {A = Colored} (record { known = true; colors = record { red = r; green = g; blue = b } }) (colored_of mode k s x)
     unfolding joined colors_after rule_f3
-    was-stored e =
+    was_stored e =
         let yes = sym asked ∙ ap stored_in e in
         let new = ap colors_in (sym e) ∙ answered (color_known mode s.color.a s.count (coverage_at x) (is_known m)) (ap stored_in e) in
         let same : ◌≡◌ {A = Colors} (record { red = bytes.r; green = bytes.g; blue = bytes.b }) told =

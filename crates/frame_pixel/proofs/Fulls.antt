@@ -15,7 +15,7 @@ use Rattle.blender.specs.Coverage.{blends, clamp_of, destination_of}
 use Rattle.blender.specs.Known.{alone, color_known}
 use Rattle.blender.specs.Blend.{or_zero}
 use Rattle.blender.specs.Layer.{steady_of, opaque_of}
-use Rattle.blender.proofs.Solid.{opaque, alone-blend}
+use Rattle.blender.proofs.Solid.{opaque, alone_blend}
 use Rattle.blender.proofs.Layers.{layered, Steady, steady, steady_alone, steady_known, steady_doubt}
 use Rattle.frame_pixel.specs.declared.Pixel.{Pixel}
 use Rattle.frame_pixel.specs.declared.Colors.{Colors}
@@ -89,23 +89,23 @@ full_rule mode (Known c) h = (λ i. cond (fills_asked mode i) (Known 7) (Known c
 module _ (mode : RenderMode) (k : Combiner) (s : Source) (x : Pixel) (n : s.count ≡ 8) where
   -- one that is steady and not opaque: its own colour where the coverage is known, and in doubt where it is not
   module _ (o : Steady mode) (h : opaque_of mode s.color.a ≡ false) where
-    steady-verdict :
+    steady_verdict :
         (m marked : Bool) (c : ℕ)
         → (rule_f1 mode s (cond m (Known c) Unknown) marked && not (rule_f2 mode s (cond m (Known c) Unknown))) ≡ m
     unfolding rule_f1 rule_f2
-    steady-verdict true marked c = λ i. ((λ j. color_known mode s.color.a (n j) (Known c) marked) ∙ steady_known o s.color.a c marked) i && true
-    steady-verdict false marked c =
+    steady_verdict true marked c = λ i. ((λ j. color_known mode s.color.a (n j) (Known c) marked) ∙ steady_known o s.color.a c marked) i && true
+    steady_verdict false marked c =
         (λ i. color_known mode s.color.a s.count Unknown marked && not (steady_doubt o s.color.a h i)) ∙ and_false (color_known mode s.color.a s.count Unknown marked)
 
     steady_yes : known_after mode s x ≡ coverage_marked x.mark
     unfolding known_after
-    steady_yes = steady-verdict (coverage_marked x.mark) (color_marked x.mark) x.coverage
+    steady_yes = steady_verdict (coverage_marked x.mark) (color_marked x.mark) x.coverage
 
     steady_stored : (m : Bool) (c : ℕ) (memory : Rgba) → m ≡ true → rule_f3 mode k s (cond m (Known c) Unknown) memory ≡ own_colors mode k s.color
     unfolding rule_f3 own_colors
     steady_stored true c memory e =
         let alone = (λ i. alone mode s.color.a (n i) (Known c)) ∙ steady_alone o s.color.a c in
-        let b = alone-blend mode k s.color memory s.shade_alpha s.count c o.own alone in
+        let b = alone_blend mode k s.color memory s.shade_alpha s.count c o.own alone in
         λ i. record { red = b.0 i; green = b.1.0 i; blue = b.1.1 i }
     steady_stored false c memory e = never e
 

@@ -16,7 +16,7 @@ use Rattle.blender.specs.declared.Source.{Source}
 use Rattle.blender.specs.Coverage.{overflow, blends, destination_of}
 use Rattle.blender.specs.Known.{reject, alone}
 use Rattle.blender.specs.Blend.{or_zero}
-use Rattle.blender.proofs.Knows.{Less, less_zero, known_more, known_all, blend-same}
+use Rattle.blender.proofs.Knows.{Less, less_zero, known_more, known_all, blend_same}
 use Rattle.blender.proofs.Range.{destination_le}
 use Rattle.frame_pixel.specs.declared.Pixel.{Pixel}
 use Rattle.frame_pixel.specs.declared.Colors.{Colors}
@@ -76,12 +76,12 @@ doubt_less mode s (Less.none {d}) t = go d
 doubt_less mode s Less.same t = refl
 
 -- where F2 has no doubt, the pixel stands alone over every coverage that the memory may have, or over none
-sure-alone :
+sure_alone :
     (mode : RenderMode) (s : Source) (n : ℕ) {c : Coverage} {i j : ℕ} → rule_f2 mode s c ≡ false → Less c (Known i) → Less c (Known j)
     → alone mode s.color.a n (Known i) ≡ alone mode s.color.a n (Known j)
 unfolding rule_f2 alone blends
-sure-alone mode s n t Less.same Less.same = refl
-sure-alone mode s n {i = i} {j = j} t Less.none Less.none =
+sure_alone mode s n t Less.same Less.same = refl
+sure_alone mode s n {i = i} {j = j} t Less.none Less.none =
     go mode.antialias mode.force_blend (reject mode s.color.a) (not (overflow n i)) (not (overflow n j)) t
   where
     go : (a f r o q : Bool) → (true && a && not f && not r) ≡ false → (not (f || (a && o)) || r) ≡ (not (f || (a && q)) || r)
@@ -106,8 +106,8 @@ module _ (mode : RenderMode) (s : Source) (c : Coverage) (a : Bool) (known : (ru
     unfolding rule_f1 rule_f3
     colors_too k {m} {m'} e =
         ap (λ (v : Bytes). record { red = v.r; green = v.g; blue = v.b })
-        (blend-same mode k s.color s.shade_alpha s.count c a m' m (or_zero d) (or_zero c) said e (less_zero l) (less_zero (less_self c))
-        (sure-alone mode s s.count sure (less_zero l) (less_zero (less_self c))))
+        (blend_same mode k s.color s.shade_alpha s.count c a m' m (or_zero d) (or_zero c) said e (less_zero l) (less_zero (less_self c))
+        (sure_alone mode s s.count sure (less_zero l) (less_zero (less_self c))))
 
 -- ---- a step
 -- the memory's colour, where it is known

@@ -41,19 +41,19 @@ map_from f c d h a b = go (b - a) a
     go zero i = refl
     go (suc n) i = map-append f (c i) (parts c n (i + 1)) ∙ (λ j. h i j ++ go n (i + 1) j)
 
-map-inside :
+map_inside :
     {A B : Type 0} (f : A → B) (s : Scissor) (w h : ℕ) (c : ℕ → ℕ → List A) (d : ℕ → ℕ → List B)
     → ((y x : ℕ) → map f (c y x) ≡ d y x) → map f (inside s w h c) ≡ inside s w h d
-map-inside f s w h c d e =
+map_inside f s w h c d e =
     map_from f _ _ (λ y. map_from f (c y) (d y) (e y) s.left (min w (s.left + s.width))) s.top (min h (s.top + s.height))
 
 -- ---- a combiner that has a colour for every shade
 module _ (k : Combiner) (value : Rgba → Rgba) (has : (s : Rgba) → color_of k s ≡ Value (value s).r (value s).g (value s).b (value s).a) where
-  pixel-mask :
+  pixel_mask :
       (antialias : Bool) (mask p : ℕ) (s : Rgba) (shade : Float)
       → map masked_of (emits (cond (shown antialias mask) (covered mask (color_of k s) shade) Empty) p) ≡ pixel_masks antialias mask p
   unfolding pixel_masks
-  pixel-mask antialias mask p s shade =
+  pixel_mask antialias mask p s shade =
       (λ i. map masked_of (emits (cond (shown antialias mask) (covered mask (has s i) shade) Empty) p)) ∙ go (shown antialias mask)
     where
       go :
@@ -71,8 +71,8 @@ module _ (k : Combiner) (value : Rgba → Rgba) (has : (s : Rgba) → color_of k
         let o = sorted (a ∷ b ∷ c ∷ []) in
         let corners = map corner_of o in
         go (culled_of cull a b c || eqb (nat_abs (area_of corners)) 0) _ _
-        (map-inside masked_of s w h _ _ (λ y x.
-        pixel-mask m.antialias (mask_of (edges_of (tri_of corners) y) x) (y * w + x) (shade_of o x y) (shade_of o x y).a))
+        (map_inside masked_of s w h _ _ (λ y x.
+        pixel_mask m.antialias (mask_of (edges_of (tri_of corners) y) x) (y * w + x) (shade_of o x y) (shade_of o x y).a))
       where
         go : (b : Bool) (es : List Emit) (ms : List Masked) → map masked_of es ≡ ms → map masked_of (cond b [] es) ≡ cond b [] ms
         go true es ms e = refl
@@ -86,5 +86,5 @@ module _ (k : Combiner) (value : Rgba → Rgba) (has : (s : Rgba) → color_of k
     geometry-masks vs ps is Nothing = refl
     geometry-masks vs ps is (Rectangle l t r b) =
         let sides : Sides = record { left = l; top = t; right = r; bottom = b } in
-        map-inside masked_of s w h _ _ (λ y x. pixel-mask m.antialias (rect_mask sides x y) (y * w + x) full_shade full_shade.a)
+        map_inside masked_of s w h _ _ (λ y x. pixel_mask m.antialias (rect_mask sides x y) (y * w + x) full_shade full_shade.a)
     geometry-masks vs ps is Triangles = map_from masked_of _ _ (λ i. three-masks (triangle_at vs ps is i)) 0 (length is / 3)

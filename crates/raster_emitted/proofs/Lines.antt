@@ -16,7 +16,7 @@ use Rattle.raster_edges.specs.Span.{edges_of}
 use Rattle.raster_pixel.specs.Emitted.{shown}
 use Rattle.raster_pixel.specs.Parts.{from}
 use Rattle.raster_pixel.specs.Row.{Fulls}
-use Rattle.raster_pixel.proofs.Kept.{kept-all}
+use Rattle.raster_pixel.proofs.Kept.{kept_all}
 use Rattle.raster_pixel.proofs.Parts.{from_empty, from_same, from_shift}
 use Rattle.raster_emitted.specs.Masked.{Masked}
 use Rattle.raster_emitted.specs.Shapes.{pixel_masks, run_masks, row_masks, line_masks}
@@ -70,12 +70,12 @@ pub row_kept :
     (antialias : Bool) (t : Tri) (w l r y : ℕ) {e : Edges} {k : Range} → e ≡ edges_of t y → Kept (no_sample e) l r k
     → from (row_masks antialias e w y) k.start k.end ≡ line_masks antialias t w l r y
 row_kept antialias t w l r y {e} ee kept =
-    sym (kept-all (row_masks antialias e w y) (no_sample e) (λ x z. unseen antialias (mask_of e x) (y * w + x) z) kept)
+    sym (kept_all (row_masks antialias e w y) (no_sample e) (λ x z. unseen antialias (mask_of e x) (y * w + x) z) kept)
     ∙ (λ i. from (row_masks antialias (ee i) w y) l r)
 
-pub rows-kept :
+pub rows_kept :
     (antialias : Bool) (t : Tri) (w l r : ℕ) {top bottom : ℕ} {k : Range} → Kept (no_row t) top bottom k
     → from (line_masks antialias t w l r) k.start k.end ≡ from (line_masks antialias t w l r) top bottom
-rows-kept antialias t w l r kept =
-    sym (kept-all (line_masks antialias t w l r) (no_row t) (λ y z.
+rows_kept antialias t w l r kept =
+    sym (kept_all (line_masks antialias t w l r) (no_row t) (λ y z.
     from_empty (row_masks antialias (edges_of t y) w y) l r (λ x a b. unseen antialias (mask_of (edges_of t y) x) (y * w + x) (z x))) kept)

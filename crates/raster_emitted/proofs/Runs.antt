@@ -56,11 +56,11 @@ filled_all {number} {mask} {lo} {before = before} {after} e d = subst (λ (k : �
 
 -- the slots of a run
 module _ (v : Window) (p count : ℕ) {n mask : ℕ} {before after : Slots} where
-  pub run-listed :
+  pub run_listed :
       {m lo hi : ℕ} → n ≤ v.limit → m ≡ min v.limit (n + count) → lo ≡ min (length before.masks) (n - v.first)
       → hi ≡ min (length before.masks) (m - v.first)
       → Filled (λ (i : ℕ). p + (v.first + i - n)) mask lo hi before after → ListedPart v (run_masks mask p (p + count)) n m before after
-  run-listed {m} {lo} {hi} h em el eh d =
+  run_listed {m} {lo} {hi} h em el eh d =
       record {
         within = h;
         count = em ∙ ap (λ (k : ℕ). min v.limit (n + k)) (sym (run_length mask p count));

@@ -29,14 +29,14 @@ use Rattle.raster_pixel.proofs.Inside.{inside_area}
 use Rattle.raster_pixel.proofs.Near.{nonzero, corners_are}
 use Rattle.raster_pixel.proofs.Parts.{from_same}
 use Rattle.raster_emitted.specs.Shapes.{pixel_masks, row_masks, line_masks, shape_masks, triangle_masks, rectangle_masks}
-use Rattle.raster_emitted.proofs.Lines.{rows-kept}
+use Rattle.raster_emitted.proofs.Lines.{rows_kept}
 
 -- ---- the rows of a shape
-pub shape-rows :
+pub shape_rows :
     (antialias : Bool) (t : Tri) (s : Scissor) (w h : ℕ) {ar : Area} {rows : Range} → ar ≡ area.area_of s w h → Kept (no_row t) ar.top ar.bottom rows
     → from (line_masks antialias t w ar.left ar.right) rows.start rows.end ≡ shape_masks antialias t s w h
-shape-rows antialias t s w h {ar} ea kept =
-    rows-kept antialias t w ar.left ar.right kept
+shape_rows antialias t s w h {ar} ea kept =
+    rows_kept antialias t w ar.left ar.right kept
     ∙ (λ i. from (line_masks antialias t w (ea i).left (ea i).right) (ea i).top (ea i).bottom)
     ∙ sym (inside_area s w h (λ (y : ℕ). row_masks antialias (edges_of t y) w y))
 
@@ -65,11 +65,11 @@ module _ (antialias cull : Bool) (s : Scissor) (w h : ℕ) (a b c : Vertex) wher
         (λ i. shape_masks antialias (u i) s w h) ∙ (λ i. cond (sym e i || area i) [] (shape_masks antialias (tri_of corners) s w h))
 
 -- ---- a rectangle
-pub rectangle-shape :
+pub rectangle_shape :
     (antialias : Bool) (s : Scissor) (w h : ℕ) (sides : Sides) {t : Tri} → w ≤ 1024 → h ≤ 1024 → Outlines sides t
     → shape_masks antialias t s w h ≡ rectangle_masks antialias s w h sides
 unfolding rectangle_masks
-rectangle-shape antialias s w h sides {t} wide high o =
+rectangle_shape antialias s w h sides {t} wide high o =
     from_same (λ (y : ℕ). from (row_masks antialias (edges_of t y) w y) s.left (min w (s.left + s.width)))
     (λ (y : ℕ). from (λ (x : ℕ). pixel_masks antialias (rect_mask sides x y) (y * w + x)) s.left (min w (s.left + s.width))) s.top (min h (s.top + s.height)) (λ y p q.
     from_same (row_masks antialias (edges_of t y) w y) (λ (x : ℕ). pixel_masks antialias (rect_mask sides x y) (y * w + x)) s.left (min w (s.left + s.width)) (λ x k l i.

@@ -64,13 +64,13 @@ module _ (s : Scissor) {w h : ℕ} (wide : w ≤ 1024) (high : h ≤ 1024) where
       omega (arith, parts_bound (λ (i : ℕ). three_emits m k cull s w h (t i)) 1048576 (λ i. three_most m k cull (t i)) (n - 0) 0)
 
   -- a draw
-  pub geometry-most :
+  pub geometry_most :
       (m : RenderMode) (k : Combiner) (cull : Bool) (vs : List Float) (ps is : List ℕ) (g : Geometry)
       → length (geometry_emits m k cull s w h vs ps is g) ≤ (length is / 3 + 1) * 1048576
   unfolding rectangle_emits
-  geometry-most m k cull vs ps is Nothing = omega arith
-  geometry-most m k cull vs ps is (Rectangle l t r b) =
+  geometry_most m k cull vs ps is Nothing = omega arith
+  geometry_most m k cull vs ps is (Rectangle l t r b) =
       let sides : Sides = record { left = l; top = t; right = r; bottom = b } in
       let pixel : ℕ → ℕ → Fragment = λ (y x : ℕ). rectangle_fragment m.antialias (color_of k full_shade) sides y x in
       omega (arith, inside_most (λ (y x : ℕ). emits (pixel y x) (y * w + x)) (λ y x. emits_most (pixel y x) (y * w + x)))
-  geometry-most m k cull vs ps is Triangles = omega (arith, triangles_most m k cull (triangle_at vs ps is) (length is / 3))
+  geometry_most m k cull vs ps is Triangles = omega (arith, triangles_most m k cull (triangle_at vs ps is) (length is / 3))

@@ -53,10 +53,10 @@ module _ {n : ℕ} where
   placed_from c a b h = placed_parts c (b - a) a (λ i p q. h i (omega arith))
 
   -- a pixel by its samples
-  placed-shown :
+  placed_shown :
       (antialias : Bool) (mask : ℕ) (c : Color) (shade : Float) (p : ℕ) → mask < 256 → p < n
       → Placed n (emits (cond (shown antialias mask) (covered mask c shade) Empty) p)
-  placed-shown antialias mask c shade p l h = go (shown antialias mask) refl c
+  placed_shown antialias mask c shade p l h = go (shown antialias mask) refl c
     where
       go : (b : Bool) → shown antialias mask ≡ b → (c : Color) → Placed n (emits (cond b (covered mask c shade) Empty) p)
       go false e c = Placed.none
@@ -89,7 +89,7 @@ module _ (s : Scissor) (w h : ℕ) where
         placed_cond (culled_of cull a b c || eqb (nat_abs (area_of corners)) 0) _
         (placed_inside _ (λ (y x : ℕ) l.
         let e = edges_of (tri_of corners) y in
-        placed-shown m.antialias (mask_of e x) (color_of k (shade_of o x y)) (shade_of o x y).a (y * w + x) (mask_lt e x) l))
+        placed_shown m.antialias (mask_of e x) (color_of k (shade_of o x y)) (shade_of o x y).a (y * w + x) (mask_lt e x) l))
 
     -- The pixels that a draw emits are pixels of the frame, with a mask from 1 to 255 each.
     pub geometry_placed : (vs : List Float) (ps is : List ℕ) (g : Geometry) → Placed (w * h) (geometry_emits m k cull s w h vs ps is g)
@@ -97,6 +97,6 @@ module _ (s : Scissor) (w h : ℕ) where
     geometry_placed vs ps is Nothing = Placed.none
     geometry_placed vs ps is (Rectangle l t r b) =
         let sides : Sides = record { left = l; top = t; right = r; bottom = b } in
-        placed_inside _ (λ (y x : ℕ) p. placed-shown m.antialias (rect_mask sides x y) (color_of k full_shade) full_shade.a (y * w + x) (rect_lt sides x y) p)
+        placed_inside _ (λ (y x : ℕ) p. placed_shown m.antialias (rect_mask sides x y) (color_of k full_shade) full_shade.a (y * w + x) (rect_lt sides x y) p)
     geometry_placed vs ps is Triangles =
         placed_from (λ (i : ℕ). three_emits m k cull s w h (triangle_at vs ps is i)) 0 (length is / 3) (λ i p. placed_three (triangle_at vs ps is i))

@@ -1,7 +1,7 @@
-#![tactic(auto)]
-
 // The float side of a triangle (writeback.rs): which vertices are in range, which triangles are culled, the order of the
 // vertices from the top down, and the colour at a pixel. Each operation is rounded once to an f32, in the Rust's order.
+#![tactic(auto)]
+
 ghost use Rattle.std.specs.Prelude.{◌≡◌, ◌<◌};
 ghost use Rattle.raster_vertex.specs.Range.{within, in_range, finite_color};
 ghost use Rattle.raster_vertex.specs.Sorted.{at_or_before, sorted};

@@ -30,11 +30,11 @@ use Rattle.frame.specs.Fits.{Fit}
 use Rattle.frame_paint.specs.declared.prepare.Paint.{Paint}
 use Rattle.frame_paint.specs.Pixel.{Drew}
 use Rattle.frame_paint.specs.Paint.{Ready}
-use Rattle.frame_paint.proofs.Drawing.{drew-as}
+use Rattle.frame_paint.proofs.Drawing.{drew_as}
 use Rattle.rasterize.specs.declared.rows.Shading.{Shading}
 use Rattle.rasterize.specs.Shape.{shading_of, shape_row}
 use Rattle.rasterize.proofs.Kept.{drew_nothing}
-use Rattle.rasterize.proofs.Shapes.{triangle-pixel, shape-drawn}
+use Rattle.rasterize.proofs.Shapes.{triangle_pixel, shape_drawn}
 
 -- ---- culled, or without an area
 none : (t : Bool) (es : List Emit) → t ≡ true → cond t [] es ≡ []
@@ -54,34 +54,34 @@ module _ (mode : RenderMode) (k : Combiner) (cull : Bool) (s : Scissor) (w h : �
 module _
     (paint : Paint) (p : Ready paint) (cull : Bool) (s : Scissor) {w h : ℕ} (wide : w ≤ 1024) (high : h ≤ 1024) (a b c : Vertex)
     {v : List Vertex} (ev : v ≡ sorted (a ∷ b ∷ c ∷ [])) {q : List Corner} (eq : q ≡ map corner_of v) {z : ℤ} (ez : z ≡ area_of q) where
-  pub triangle-drawn :
+  pub triangle_drawn :
       {shading : Shading} {t : Tri} {ar : Area} {rows : Range} {m n : ℕ} {f g : Frame}
       → culled_of cull a b c ≡ false → (z ≡ pos 0 → ⊥) → t ≡ tri_of q → ar ≡ area.area_of s w h
       → Kept (no_row t) ar.top ar.bottom rows → shading ≡ shading_of paint.flat v
       → Drew paint.mode paint.combiner m (from (shape_row paint shading t w ar.left ar.right) rows.start rows.end) f g n
       → Drew paint.mode paint.combiner m (triangle_emits paint.mode paint.combiner cull s w h a b c) f g n
   unfolding triangle_emits
-  triangle-drawn {t = t} {ar} {rows} e n et ea kept es d =
+  triangle_drawn {t = t} {ar} {rows} e n et ea kept es d =
       let o = sorted (a ∷ b ∷ c ∷ []) in
       let u : t ≡ tri_of (map corner_of o) = et ∙ ap tri_of (corners_are a b c ev eq) in
       let pixel : List Vertex → Tri → ℕ → ℕ → List Emit = λ v t y x. emits (triangle_fragment paint.mode.antialias paint.combiner v (edges_of t y) y x) (y * w + x) in
-      drew-as
+      drew_as
       ((λ i. inside s w h (pixel (ev i) (u i)))
       ∙ (λ i.
       cond (sym e i || (sym (nonzero z n) ∙ ap (λ (x : ℤ). eqb (nat_abs x) 0) (ez ∙ ap area_of (corners_are a b c ev eq))) i) []
       (inside s w h (pixel o (tri_of (map corner_of o))))))
-      (shape-drawn paint (shading_of paint.flat v) t s wide high (pixel v t) (λ y x hy hx. triangle-pixel paint v t w y x p) ea kept
-      (drew-as (λ i. from (shape_row paint (es i) t w ar.left ar.right) rows.start rows.end) d))
+      (shape_drawn paint (shading_of paint.flat v) t s wide high (pixel v t) (λ y x hy hx. triangle_pixel paint v t w y x p) ea kept
+      (drew_as (λ i. from (shape_row paint (es i) t w ar.left ar.right) rows.start rows.end) d))
 
 -- ---- triangle i of a list
 module _ (mode : RenderMode) (k : Combiner) (cull : Bool) (s : Scissor) (w h : ℕ) {m : ℕ} {f : Frame} {r t : Three} (e : r ≡ t) where
   three_as : {q : Three} {g : Frame} {n : ℕ} → r ≡ q → Drew mode k m (three_emits mode k cull s w h q) f g n → Drew mode k m (three_emits mode k cull s w h t) f g n
-  three_as p = drew-as (ap (three_emits mode k cull s w h) (sym p ∙ e))
+  three_as p = drew_as (ap (three_emits mode k cull s w h) (sym p ∙ e))
 
   pub three_absent : r ≡ Absent → Fit m f → Drew mode k m (three_emits mode k cull s w h t) f f 0
   three_absent p h = three_as p (drew_nothing refl h)
 
-  pub three-drawn :
+  pub three_drawn :
       {a b c : Vertex} {g : Frame} {n : ℕ} → r ≡ Vertices a b c
       → Drew mode k m (triangle_emits mode k cull s w h a b c) f g n → Drew mode k m (three_emits mode k cull s w h t) f g n
-  three-drawn p = three_as p
+  three_drawn p = three_as p

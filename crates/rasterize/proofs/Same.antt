@@ -40,7 +40,7 @@ module _ {S E : Type 0} {step : S → E → S} where
   pub same_parts : {c d : ℕ → List E} (a b : ℕ) → ((i : ℕ) → a ≤ i → i < b → Same step (c i) (d i)) → Same step (from c a b) (from d a b)
   same_parts a b h = same_from (b - a) a (λ i p q. h i p (omega arith))
 
-pub drew-same :
+pub drew_same :
     {mode : RenderMode} {k : Combiner} {m n : ℕ} {ds es : List Emit} {f g : Frame}
     → Same (step_frame mode k) ds es → Drew mode k m ds f g n → Drew mode k m es f g n
-drew-same {f = f} s d = record { ran = record { state = d.ran.state ∙ s.state f; count = d.ran.count ∙ s.count }; fit = d.fit }
+drew_same {f = f} s d = record { ran = record { state = d.ran.state ∙ s.state f; count = d.ran.count ∙ s.count }; fit = d.fit }

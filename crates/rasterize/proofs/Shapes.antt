@@ -36,31 +36,31 @@ use Rattle.frame_paint.specs.Steps.{step_frame}
 use Rattle.frame_paint.specs.Pixel.{Drew}
 use Rattle.frame_paint.specs.Paint.{Prepared, Ready}
 use Rattle.frame_paint.specs.Row.{hue_of, pixel_of, row_at}
-use Rattle.frame_paint.proofs.Drawing.{drew-as}
-use Rattle.frame_paint.proofs.Paints.{any-shade}
+use Rattle.frame_paint.proofs.Drawing.{drew_as}
+use Rattle.frame_paint.proofs.Paints.{any_shade}
 use Rattle.rasterize.specs.declared.rows.Shading.{Shading}
 use Rattle.rasterize.specs.declared.rows.Shading.TheVariants.{Flat}
 use Rattle.rasterize.specs.Shape.{shading_of, shape_pixel, shape_row}
-use Rattle.rasterize.proofs.Same.{Same, same_as, same_parts, drew-same}
-use Rattle.rasterize.proofs.Kept.{rows-kept}
+use Rattle.rasterize.proofs.Same.{Same, same_as, same_parts, drew_same}
+use Rattle.rasterize.proofs.Kept.{rows_kept}
 
 -- ---- a triangle's pixel
 module _ (paint : Paint) (v : List Vertex) (e : Edges) (w y x : ℕ) where
   -- by its shade
-  smooth-pixel :
+  smooth_pixel :
       Ready paint → row_at paint false (row_of v y) e w y x ≡ emits (triangle_fragment paint.mode.antialias paint.combiner v e y x) (y * w + x)
   unfolding pixel_of hue_of triangle_fragment
-  smooth-pixel p =
+  smooth_pixel p =
       let s = shade_on (row_of v y) x in
       let color = (λ i. color_value (mixed_by (p.prepared.resolved i) s)) ∙ sym (p.mixes s) ∙ ap (color_of paint.combiner) (row_shade v x y) in
       λ i. emits (cond (shown paint.mode.antialias (mask_of e x)) (covered (mask_of e x) (color i) (row_shade v x y i).a) Empty) (y * w + x)
 
   -- of a flat paint
-  flat-pixel :
+  flat_pixel :
       Prepared paint → paint.flat ≡ true → (row : ShadeRow)
       → Same (step_frame paint.mode paint.combiner) (row_at paint true row e w y x) (emits (triangle_fragment paint.mode.antialias paint.combiner v e y x) (y * w + x))
   unfolding pixel_of hue_of triangle_fragment
-  flat-pixel p h row =
+  flat_pixel p h row =
       let s = shade_of v x y in
       subst (λ (c : Color). Same (step_frame paint.mode paint.combiner) (row_at paint true row e w y x) (emits (cond (shown paint.mode.antialias (mask_of e x)) (covered (mask_of e x) c s.a) Empty) (y * w + x)))
       (sym ((p.flat h).1 s)) (go (shown paint.mode.antialias (mask_of e x)))
@@ -69,55 +69,55 @@ module _ (paint : Paint) (v : List Vertex) (e : Edges) (w y x : ℕ) where
           (b : Bool)
           → Same (step_frame paint.mode paint.combiner) (emits (cond b (covered (mask_of e x) (color_value paint.color) f1) Empty) (y * w + x))
           (emits (cond b (covered (mask_of e x) (color_value paint.color) (shade_of v x y).a) Empty) (y * w + x))
-      go true = record { state = λ f. any-shade paint p (p.flat h).0 f (y * w + x) (mask_of e x) f1 (shade_of v x y).a; count = refl }
+      go true = record { state = λ f. any_shade paint p (p.flat h).0 f (y * w + x) (mask_of e x) f1 (shade_of v x y).a; count = refl }
       go false = same_as refl
 
 -- flat where the paint is
-pub triangle-pixel :
+pub triangle_pixel :
     (paint : Paint) (v : List Vertex) (t : Tri) (w y x : ℕ) → Ready paint
     → Same (step_frame paint.mode paint.combiner) (shape_pixel paint (shading_of paint.flat v) t w y x)
     (emits (triangle_fragment paint.mode.antialias paint.combiner v (edges_of t y) y x) (y * w + x))
-triangle-pixel paint v t w y x p = go paint.flat refl
+triangle_pixel paint v t w y x p = go paint.flat refl
   where
     go :
         (b : Bool) → paint.flat ≡ b
         → Same (step_frame paint.mode paint.combiner) (shape_pixel paint (shading_of b v) t w y x)
         (emits (triangle_fragment paint.mode.antialias paint.combiner v (edges_of t y) y x) (y * w + x))
-    go true h = flat-pixel paint v (edges_of t y) w y x p.prepared h _
-    go false h = same_as (smooth-pixel paint v (edges_of t y) w y x p)
+    go true h = flat_pixel paint v (edges_of t y) w y x p.prepared h _
+    go false h = same_as (smooth_pixel paint v (edges_of t y) w y x p)
 
 -- ---- a rectangle's pixel
-rectangle-pixel :
+rectangle_pixel :
     (paint : Paint) (sides : Sides) (t : Tri) (w y x : ℕ) → Prepared paint → Outlines sides t → y < 1024 → x < 1024
     → shape_pixel paint Flat t w y x ≡ emits (rectangle_fragment paint.mode.antialias (color_of paint.combiner full_shade) sides y x) (y * w + x)
 unfolding pixel_of hue_of rectangle_fragment
-rectangle-pixel paint sides t w y x p o hy hx =
+rectangle_pixel paint sides t w y x p o hy hx =
     let m = o.same x y hx hy in
     λ i. emits (cond (shown paint.mode.antialias (m i)) (covered (m i) (sym p.color i) f1) Empty) (y * w + x)
 
 -- ---- all its pixels, where the rows that are left out have no sample
 module _ (paint : Paint) (shading : Shading) (t : Tri) (s : Scissor) {w h : ℕ} (wide : w ≤ 1024) (high : h ≤ 1024) where
-  pub shape-drawn :
+  pub shape_drawn :
       {ar : Area} {rows : Range} {m n : ℕ} {f g : Frame} (pixel : ℕ → ℕ → List Emit)
       → ((y x : ℕ) → y < 1024 → x < 1024 → Same (step_frame paint.mode paint.combiner) (shape_pixel paint shading t w y x) (pixel y x))
       → ar ≡ area_of s w h → Kept (no_row t) ar.top ar.bottom rows
       → Drew paint.mode paint.combiner m (from (shape_row paint shading t w ar.left ar.right) rows.start rows.end) f g n
       → Drew paint.mode paint.combiner m (inside s w h pixel) f g n
-  shape-drawn {ar} pixel same ea kept d =
+  shape_drawn {ar} pixel same ea kept d =
       let b = bounded s w h ea in
-      drew-as ((λ i. from (λ (y : ℕ). from (pixel y) (ea i).left (ea i).right) (ea i).top (ea i).bottom) ∙ sym (inside_area s w h pixel))
-      (drew-same
+      drew_as ((λ i. from (λ (y : ℕ). from (pixel y) (ea i).left (ea i).right) (ea i).top (ea i).bottom) ∙ sym (inside_area s w h pixel))
+      (drew_same
       (same_parts ar.top ar.bottom
       (λ y p q. same_parts ar.left ar.right (λ x j l. same y x (omega (arith, b.bottom_in)) (omega (arith, b.right_in)))))
-      (drew-as (sym (rows-kept paint shading t w ar.left ar.right kept)) d))
+      (drew_as (sym (rows_kept paint shading t w ar.left ar.right kept)) d))
 
 -- ---- a rectangle
 module _ (paint : Paint) (p : Prepared paint) (s : Scissor) {w h : ℕ} (wide : w ≤ 1024) (high : h ≤ 1024) (sides : Sides) where
-  pub rectangle-drawn :
+  pub rectangle_drawn :
       {t : Tri} {ar : Area} {rows : Range} {m n : ℕ} {f g : Frame} → Outlines sides t → ar ≡ area_of s w h → Kept (no_row t) ar.top ar.bottom rows
       → Drew paint.mode paint.combiner m (from (shape_row paint Flat t w ar.left ar.right) rows.start rows.end) f g n
       → Drew paint.mode paint.combiner m (rectangle_emits paint.mode paint.combiner s w h sides) f g n
   unfolding rectangle_emits
-  rectangle-drawn {t} o =
-      shape-drawn paint Flat t s wide high (λ (y x : ℕ). emits (rectangle_fragment paint.mode.antialias (color_of paint.combiner full_shade) sides y x) (y * w + x))
-      (λ y x hy hx. same_as (rectangle-pixel paint sides t w y x p o hy hx))
+  rectangle_drawn {t} o =
+      shape_drawn paint Flat t s wide high (λ (y x : ℕ). emits (rectangle_fragment paint.mode.antialias (color_of paint.combiner full_shade) sides y x) (y * w + x))
+      (λ y x hy hx. same_as (rectangle_pixel paint sides t w y x p o hy hx))

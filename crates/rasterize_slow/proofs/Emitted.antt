@@ -59,13 +59,13 @@ module _ (antialias : Bool) (k : Combiner) (y x : ℕ) where
       cond (shown antialias mask) (covered mask (color_of k (shade_of o x y)) (shade_of o x y).a) Empty
 
   -- of a triangle, which may be skipped
-  pub skipped-fragment :
+  pub skipped_fragment :
       (cull : Bool) (a b c : Vertex)
       → (let o = sorted (a ∷ b ∷ c ∷ []) in let corners = map corner_of o in
       shape_fragment antialias k (triangle_shape cull a b c) y x
       ≡ cond (culled_of cull a b c || eqb (nat_abs (area_of corners)) 0) Empty (triangle_fragment antialias k o (edges_of (tri_of corners) y) y x))
   unfolding triangle_shape
-  skipped-fragment cull a b c =
+  skipped_fragment cull a b c =
       let o = sorted (a ∷ b ∷ c ∷ []) in
       go (culled_of cull a b c || eqb (nat_abs (area_of (map corner_of o))) 0) (tri_of (map corner_of o)) o
     where
@@ -98,9 +98,9 @@ module _ (v : Walk) (s : Scissor) (h : ℕ) (ea : v.area ≡ area.area_of s v.wi
       record { across = b.across; down = b.down; inside = b.right_in; wide = z.width_small; high = omega (arith, b.bottom_in, z.height_small) }
 
   -- every pixel inside the scissor
-  by-pixel :
+  by_pixel :
       (shape : Shape) (pixel : ℕ → ℕ → List Emit) → ((y x : ℕ) → pixel_emits v shape y x ≡ pixel y x) → shape_emits v shape ≡ inside s w h pixel
-  by-pixel shape pixel e =
+  by_pixel shape pixel e =
       (λ i. from (λ (y : ℕ). from (λ (x : ℕ). e y x i) (ea i).left (ea i).right) (ea i).top (ea i).bottom) ∙ sym (inside_area s w h pixel)
 
   none : shape_emits v Nothing ≡ []
@@ -120,7 +120,7 @@ module _ (v : Walk) (s : Scissor) (h : ℕ) (ea : v.area ≡ area.area_of s v.wi
           → shape_emits v (cond skipped Nothing (Triangle t (vertex_at o 0) (vertex_at o 1) (vertex_at o 2)))
           ≡ cond skipped [] (inside s w h (λ (y x : ℕ). emits (triangle_fragment mode.antialias k o (edges_of t y) y x) (y * w + x)))
       go true t o = none
-      go false t o = by-pixel _ _ (λ y x i. emits (triangle-fragment mode.antialias k y x t o i) (y * w + x))
+      go false t o = by_pixel _ _ (λ y x i. emits (triangle-fragment mode.antialias k y x t o i) (y * w + x))
 
   three-emits : (cull : Bool) (t : Three) → shape_emits v (three_shape cull t) ≡ three_emits mode k cull s w h t
   three-emits cull Absent = none
@@ -132,14 +132,14 @@ module _ (v : Walk) (s : Scissor) (h : ℕ) (ea : v.area ≡ area.area_of s v.wi
   unfolding rectangle_emits
   walk-emits cull vs ps is geometry.Nothing = refl
   walk-emits cull vs ps is (geometry.Rectangle l t r b) =
-      by-pixel _ _ (λ y x i. emits (rectangle-fragment mode.antialias k y x (record { left = l; top = t; right = r; bottom = b }) i) (y * w + x))
+      by_pixel _ _ (λ y x i. emits (rectangle-fragment mode.antialias k y x (record { left = l; top = t; right = r; bottom = b }) i) (y * w + x))
   walk-emits cull vs ps is geometry.Triangles = λ i. from (λ (j : ℕ). three-emits cull (triangle_at vs ps is j) i) 0 (length is / 3)
 
 -- ---- a walk that draws, and counts as far as it emits
-pub sent-drew :
+pub sent_drew :
     (v : Walk) {es : List Emit} {m : ℕ} {f g : Frame} {s t : Slots} → v.draws ≡ true → length es ≤ v.window.limit → Sent v es 0 m f g s t
     → Drew v.mode v.combiner (length f.marks) es f g m
-sent-drew v {es} {f = f} {g} p few d =
+sent_drew v {es} {f = f} {g} p few d =
     record {
       ran = record { state = d.drawn ∙ (λ i. cond (p i) (draw_list v.mode v.combiner f es) f); count = omega (arith, d.listed.count, length-map es masked_of) };
       fit = subst (λ (n : ℕ). Fit n g) d.marks (d.room p).fit;

@@ -36,11 +36,11 @@ unfolding shape_mask pair_hit sample_hit
 nothing_mask y x = refl
 
 -- a triangle
-triangle-pair :
+triangle_pair :
     (t : Tri) (a b c : Vertex) (y x line : ℕ)
     → pair_hit (Triangle t a b c) y x line ≡ two_of (line_of t (y * 4 + line)).l (line_of t (y * 4 + line)).r (sample_at x line)
 unfolding pair_hit sample_hit two_of
-triangle-pair t a b c y x line =
+triangle_pair t a b c y x line =
     λ i.
     2 * bit_of (inside (line_of t (y * 4 + line)).l (line_of t (y * 4 + line)).r (add-zero (sample_at x line) i))
     + bit_of (inside (line_of t (y * 4 + line)).l (line_of t (y * 4 + line)).r (sample_at x line + 4))
@@ -48,7 +48,7 @@ triangle-pair t a b c y x line =
 pub triangle_mask : (t : Tri) (a b c : Vertex) (y x : ℕ) → shape_mask (Triangle t a b c) y x ≡ mask_of (edges_of t y) x
 unfolding shape_mask mask_of pair_of edges_of
 triangle_mask t a b c y x =
-    λ i. 64 * triangle-pair t a b c y x 0 i + 16 * triangle-pair t a b c y x 1 i + 4 * triangle-pair t a b c y x 2 i + triangle-pair t a b c y x 3 i
+    λ i. 64 * triangle_pair t a b c y x 0 i + 16 * triangle_pair t a b c y x 1 i + 4 * triangle_pair t a b c y x 2 i + triangle_pair t a b c y x 3 i
 
 -- a rectangle
 scaled : (t : Bool) (n : ℕ) → n * bit_of t ≡ cond t n 0

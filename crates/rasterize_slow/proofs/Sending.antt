@@ -25,11 +25,11 @@ undrawn : {A : Type 0} (b : Bool) (f : A) → f ≡ cond b f f
 undrawn true f = refl
 undrawn false f = refl
 
-then-drawn :
+then_drawn :
     (v : Walk) (b : Bool) (es fs : List Emit) (f : Frame)
     → (let k = draw_list v.mode v.combiner in cond b (k (cond b (k f es) f) fs) (cond b (k f es) f) ≡ cond b (k f (es ++ fs)) f)
-then-drawn v true es fs f = sym (foldl-append (step_frame v.mode v.combiner) f es fs)
-then-drawn v false es fs f = refl
+then_drawn v true es fs f = sym (foldl-append (step_frame v.mode v.combiner) f es fs)
+then_drawn v false es fs f = refl
 
 module _ {v : Walk} where
   -- nothing
@@ -46,11 +46,11 @@ module _ {v : Walk} where
   open_now o d = record { room = d.room; ready = ready_now o.ready d.listed }
 
   -- one part and then another
-  pub sent-then :
+  pub sent_then :
       {es fs : List Emit} {n m k : ℕ} {f g h : Frame} {s t u : Slots} → Sent v es n m f g s t → Sent v fs m k g h t u → Sent v (es ++ fs) n k f h s u
-  sent-then {es} {fs} {f = f} d e =
+  sent_then {es} {fs} {f = f} d e =
       record {
-        drawn = e.drawn ∙ (λ i. cond v.draws (draw_list v.mode v.combiner (d.drawn i) fs) (d.drawn i)) ∙ then-drawn v v.draws es fs f;
+        drawn = e.drawn ∙ (λ i. cond v.draws (draw_list v.mode v.combiner (d.drawn i) fs) (d.drawn i)) ∙ then_drawn v v.draws es fs f;
         colors = e.colors ∙ d.colors;
         coverages = e.coverages ∙ d.coverages;
         marks = e.marks ∙ d.marks;
@@ -59,10 +59,10 @@ module _ {v : Walk} where
       }
 
   -- one pixel
-  pub sent-one :
+  pub sent_one :
       (e : Emit) {n m : ℕ} {f g : Frame} {s t : Slots} → Open v n f s → (0 < e.mask) × (e.mask < 256)
       → g ≡ cond v.draws (step_frame v.mode v.combiner f e) f → ListedPart v.window (masked_of e ∷ []) n m s t → Sent v (e ∷ []) n m f g s t
-  sent-one e {n} {m} {f} {g} {s} {t} o h d l = go v.draws refl
+  sent_one e {n} {m} {f} {g} {s} {t} o h d l = go v.draws refl
     where
       go : (b : Bool) → v.draws ≡ b → Sent v (e ∷ []) n m f g s t
       go true p =
@@ -94,7 +94,7 @@ module _ {v : Walk} (c : ℕ → List Emit) (a : ℕ) {n : ℕ} {f : Frame} {s :
 
   module _ {i m : ℕ} {g : Frame} {t : Slots} (l : Sent v (from c a i) n m f g s t) where
     pub sending_more : {k : ℕ} {h : Frame} {u : Slots} → a ≤ i → Sent v (c i) m k g h t u → Sent v (from c a (i + 1)) n k f h s u
-    sending_more p d = sent_as (from_join c a i (i + 1) p (omega arith)) (sent-then l (sent_as (sym (from_one c i)) d))
+    sending_more p d = sent_as (from_join c a i (i + 1) p (omega arith)) (sent_then l (sent_as (sym (from_one c i)) d))
 
     pub sending_done : {b : ℕ} → b ≤ i → i ≤ b → Sent v (from c a b) n m f g s t
     sending_done {b} p q = let e : i ≡ b = omega arith in sent_as (ap (from c a) e) l

@@ -44,10 +44,10 @@ module _ (cull : Bool) (a b c : Vertex) where
     unfolding triangle_shape
     area_nothing p = λ i. cond (sym e i || eqb (nat_abs ((sym p ∙ area) i)) 0) Nothing whole
 
-    pub triangle-there :
+    pub triangle_there :
         (z ≡ pos 0 → ⊥) → {t : Tri} → t ≡ tri_of q → Triangle t (vertex_at v 0) (vertex_at v 1) (vertex_at v 2) ≡ triangle_shape cull a b c
     unfolding triangle_shape
-    triangle-there n et =
+    triangle_there n et =
         let u = et ∙ ap tri_of (corners_are a b c ev eq) in
         (λ i. Triangle (u i) (vertex_at (ev i) 0) (vertex_at (ev i) 1) (vertex_at (ev i) 2))
         ∙ (λ i. cond (sym e i || (sym (nonzero z n) ∙ ap (λ (x : ℤ). eqb (nat_abs x) 0) area) i) Nothing whole)

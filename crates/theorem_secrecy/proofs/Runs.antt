@@ -102,11 +102,11 @@ module _ (w h : ℕ) {f g : Frame} (a : Alike f g) (d : DrawArgs) where
 
 -- mark 1 of pixel p after an emitted pixel, and after a list of them
 module _ (mode : RenderMode) (k : Combiner) (p : ℕ) where
-  step-mark :
+  step_mark :
       (f : Frame) (e : Emit) → e.pixel < length f.marks
       → known_at p (step_frame mode k f e) ≡ cond (eqb e.pixel p) (verdict_at mode f e) (known_at p f)
   unfolding step_frame
-  step-mark f e l = go (ℕ_discrete e.pixel p)
+  step_mark f e l = go (ℕ_discrete e.pixel p)
     where
       q : ℕ
       q = e.pixel
@@ -121,12 +121,12 @@ module _ (mode : RenderMode) (k : Combiner) (p : ℕ) where
           (rw (get_or-set_same f.marks q mark 0 l) (color_after mode k (source_of e) (pixel_at f q))))
       go (no n) = rw (ne_eqb q p n, get_or-set_other f.marks q p mark 0 (λ (r : p ≡ q). n (sym r)))
 
-  list-mark :
+  list_mark :
       (f : Frame) (es : List Emit) → Placed (length f.marks) es → known_at p (draw_list mode k f es) ≡ last_at p (verdicts mode k f es) (known_at p f)
-  list-mark f [] b = refl
-  list-mark f (e ∷ es) (Placed.more l c b) =
-      list-mark (step_frame mode k f e) es (subst (λ (n : ℕ). Placed n es) (sym (step_marks mode k f e)) b)
-      ∙ ap (last_at p (verdicts mode k (step_frame mode k f e) es)) (step-mark f e l)
+  list_mark f [] b = refl
+  list_mark f (e ∷ es) (Placed.more l c b) =
+      list_mark (step_frame mode k f e) es (subst (λ (n : ℕ). Placed n es) (sym (step_marks mode k f e)) b)
+      ∙ ap (last_at p (verdicts mode k (step_frame mode k f e) es)) (step_mark f e l)
 
 -- what a plan emits has mark bytes
 module _ (w h : ℕ) (engine : Engine) (d : DrawArgs) (f : Frame) where
@@ -136,7 +136,7 @@ module _ (w h : ℕ) (engine : Engine) (d : DrawArgs) (f : Frame) where
     where
       go : (plan : Plan) → Placed (length f.marks) (pixels_of plan) → known_at p (frame_by d.mode plan f) ≡ last_at p (said_by_plan d.mode f plan) (known_at p f)
       go (Plan.refuse k) b = refl
-      go (Plan.accept k es) b = list-mark d.mode k p f es b
+      go (Plan.accept k es) b = list_mark d.mode k p f es b
 
 -- ---- part 3: any list
 -- the three facts of a call

@@ -22,7 +22,7 @@ use Rattle.words_run.specs.Run.{entry_of, run_answer}
 use Rattle.theorem_calls.specs.Calls.{Call, frame_after, frame_after_all}
 use Rattle.theorem_truth.specs.Completed.{completed}
 use Rattle.theorem_truth.specs.Console.{console_list, console_by, console_after, console_after_all}
-use Rattle.theorem_truth.proofs.Truth.{true-word, true-entry, step_all_known, call_all_known}
+use Rattle.theorem_truth.proofs.Truth.{true_word, true_entry, step_all_known, call_all_known}
 use Rattle.theorem_truth.proofs.Completed.{completed_all_known, completed_knows, completed_truth}
 
 -- ---- a draw
@@ -73,17 +73,17 @@ module _ (f : Frame) (colors coverages : ℕ → ℕ) (w h : ℕ) (low : (p : �
   console_knows = subst (λ (g : Frame). KnowsAtLeast w h g (frame_after_all w h os f)) is_console (completed_truth f colors coverages w h low e os).knows
 
   -- Every word that is handed out after a list is the word that the console would hand out, whatever the bytes really were that were not known.
-  pub console-word :
+  pub console_word :
       (r : ReadArgs) → (read_answer r w h (frame_after_all w h os f)).number ≡ 0 → read_answer r w h console ≡ read_answer r w h (frame_after_all w h os f)
-  console-word r t =
-      ap (read_answer r w h) (sym is_console) ∙ true-word w h os (completed f colors coverages) f (completed_knows f colors coverages w h low e) r t
+  console_word r t =
+      ap (read_answer r w h) (sym is_console) ∙ true_word w h os (completed f colors coverages) f (completed_knows f colors coverages w h low e) r t
 
   -- And so is every word of a run.
-  pub console-entry :
+  pub console_entry :
       (r : ReadArgs) (ws ns : List ℕ) (i : ℕ)
       → let a = run_answer r w h (frame_after_all w h os f) ws ns in
       let b = run_answer r w h console ws ns in
       (entry_of a.words a.numbers i).number ≡ 0 → entry_of b.words b.numbers i ≡ entry_of a.words a.numbers i
-  console-entry r ws ns i t =
+  console_entry r ws ns i t =
       ap (λ (g : Frame). let b = run_answer r w h g ws ns in entry_of b.words b.numbers i) (sym is_console)
-      ∙ true-entry w h os (completed f colors coverages) f (completed_knows f colors coverages w h low e) r ws ns i t
+      ∙ true_entry w h os (completed f colors coverages) f (completed_knows f colors coverages w h low e) r ws ns i t

@@ -36,7 +36,7 @@ use Rattle.frame_emitted.specs.Run.{PixelsAnswer, emitted_run}
 use Rattle.frame_emitted.proofs.Frames.{pixel_same, pixels_same}
 use Rattle.theorem_calls.specs.Calls.{Call, Answer, answer_to, frame_after, answers, frame_after_all}
 use Rattle.theorem_truth.specs.Truth.{TellsAnswer, Tells, Truth}
-use Rattle.theorem_truth.proofs.Words.{read_tells, run_tells, word_again, entry-again}
+use Rattle.theorem_truth.proofs.Words.{read_tells, run_tells, word_again, entry_again}
 
 -- ---- part 1: emitted pixels
 module _ (mode : RenderMode) (k : Combiner) where
@@ -106,18 +106,18 @@ pub truth : (w h : ℕ) (os : List Call) (g f : Frame) → KnowsAtLeast w h g f 
 truth w h os g f a = record { tells = list_tells w h os g f a; knows = knows_after w h os g f a }
 
 -- A word that is handed out on f, after any list, is handed out on g, and is the same word.
-pub true-word :
+pub true_word :
     (w h : ℕ) (os : List Call) (g f : Frame) → KnowsAtLeast w h g f → (r : ReadArgs)
     → (read_answer r w h (frame_after_all w h os f)).number ≡ 0 → read_answer r w h (frame_after_all w h os g) ≡ read_answer r w h (frame_after_all w h os f)
-true-word w h os g f a r t = word_again (read_tells w h (knows_after w h os g f a) r) t
+true_word w h os g f a r t = word_again (read_tells w h (knows_after w h os g f a) r) t
 
 -- So is each word of a run.
-pub true-entry :
+pub true_entry :
     (w h : ℕ) (os : List Call) (g f : Frame) → KnowsAtLeast w h g f → (r : ReadArgs) (ws ns : List ℕ) (i : ℕ)
     → let a = run_answer r w h (frame_after_all w h os f) ws ns in
     let b = run_answer r w h (frame_after_all w h os g) ws ns in
     (entry_of a.words a.numbers i).number ≡ 0 → entry_of b.words b.numbers i ≡ entry_of a.words a.numbers i
-true-entry w h os g f a r ws ns i t = entry-again i (run_tells w h (knows_after w h os g f a) r ws ns) t
+true_entry w h os g f a r ws ns i t = entry_again i (run_tells w h (knows_after w h os g f a) r ws ns) t
 
 -- ---- part 4: a frame on which everything is known
 module _ (mode : RenderMode) (k : Combiner) where

@@ -175,8 +175,8 @@ module _ (w h : ℕ) {g f : Frame} (a : KnowsAtLeast w h g f) where
       go false = TellsRun.same
 
 -- and so is an entry of a run
-pub entry-again :
+pub entry_again :
     {b a : RunAnswer} (i : ℕ) → TellsRun b a → (entry_of a.words a.numbers i).number ≡ 0
     → entry_of b.words b.numbers i ≡ entry_of a.words a.numbers i
-entry-again i TellsRun.same t = refl
-entry-again i (TellsRun.read e) t = word_again (e.entries i) t
+entry_again i TellsRun.same t = refl
+entry_again i (TellsRun.read e) t = word_again (e.entries i) t

@@ -26,10 +26,10 @@ use Rattle.frame.proofs.Loads.{fit_loadable}
 abbrev rgba : Colors → Rgba8
 rgba c = record { r = c.red; g = c.green; b = c.blue; a = 0 }
 
-pub encoded-with :
+pub encoded_with :
     (x : Writer) (pixel dither : ℕ) (e : FramebufferEncoding) {c d : Colors} {n m : ℕ} {r : Bytes2}
     → r ≡ encode_of x (rgba c) n pixel Absent dither e → c ≡ d → n ≡ m → r ≡ encode_of x (rgba d) m pixel Absent dither e
-encoded-with x pixel dither e h l g = h ∙ (λ i. encode_of x (rgba (l i)) (g i) pixel Absent dither e)
+encoded_with x pixel dither e h l g = h ∙ (λ i. encode_of x (rgba (l i)) (g i) pixel Absent dither e)
 
 -- ---- a supported colour writer has 8 or 16 bits
 siz_le : (siz : ℕ) (x y : Bool) → ((eqb siz 2 && x) || (eqb siz 1 && y)) ≡ true → siz ≤ 3

@@ -6,7 +6,7 @@ use Rattle.words_read.specs.Read.{WordAnswer}
 use Rattle.words_run.specs.Run.{answers_from, one_if, count_of}
 use Rattle.words_run.specs.Entries.{Entries, put_entry, Matched, Wrote, At}
 use Rattle.words_run.specs.declared.entry.Place.{Place}
-use Rattle.words_run.proofs.Entries.{wrote_none, wrote-more, wrote_less}
+use Rattle.words_run.proofs.Entries.{wrote_none, wrote_more, wrote_less}
 use Rattle.words_run.proofs.Answers.{count_le, count_next, count_done}
 use Rattle.words_run.proofs.Columns.{at_first}
 
@@ -31,15 +31,15 @@ module _ (answer : ℕ → WordAnswer) (w first count total : ℕ) (s₀ : Entri
     pub along_fits : r ≡ one_if (answer i).number → n + r ≤ count
     along_fits e = omega (arith, e, a.counted, count_next answer i count h, count_le answer 0 count)
 
-    pub along-more :
+    pub along_more :
         {x : WordAnswer} {t : Entries} {q' : Place} → count ≤ total → x ≡ answer i → t ≡ put_entry s i x → r ≡ one_if x.number
         → At w (q.y * w + q.x + 1) q' → Along (i + 1) t (n + r) q'
-    along-more {x} {t} {q'} l e p d b =
+    along_more {x} {t} {q'} l e p d b =
         let u : q.y * w + q.x + 1 ≡ first + (i + 1) = omega (arith, a.place.place) in
         let v : r ≡ one_if (answer i).number = d ∙ ap (λ (y : WordAnswer). one_if y.number) e in
         record {
           place = subst (λ (p : ℕ). At w p q') u b;
-          wrote = wrote-more answer 0 a.wrote (omega arith) (omega arith) e p;
+          wrote = wrote_more answer 0 a.wrote (omega arith) (omega arith) e p;
           counted = omega (arith, v, a.counted, count_next answer i count h);
         }
 

@@ -29,15 +29,15 @@ module _ (answer : ℕ → WordAnswer) where
   count_none i (suc n) h =
       omega (arith, h i (omega arith) (omega arith), count_none (suc i) n (λ j a b. h j (omega arith) (omega arith)))
 
-  pub count-both :
+  pub count_both :
       (i n m k l : ℕ) → k ≡ i + n → l ≡ n + m
       → count_of (answers_from answer i l) ≡ count_of (answers_from answer i n) + count_of (answers_from answer k m)
-  count-both i zero m k l e d =
+  count_both i zero m k l e d =
       let p : i ≡ k = omega arith in
       let q : l ≡ m = omega arith in
       omega (arith, ap₂ (λ (a b : ℕ). count_of (answers_from answer a b)) p q)
-  count-both i (suc n) m k zero e d = absurd (omega arith)
-  count-both i (suc n) m k (suc l) e d = omega (arith, count-both (suc i) n m k l (omega arith) (omega arith))
+  count_both i (suc n) m k zero e d = absurd (omega arith)
+  count_both i (suc n) m k (suc l) e d = omega (arith, count_both (suc i) n m k l (omega arith) (omega arith))
 
   -- entry i counted, and what is left
   pub count_next :
@@ -58,15 +58,15 @@ answers_same f g i (suc n) h =
 
 -- ---- numbers and bytes
 module _ (answer : ℕ → WordAnswer) where
-  numbers-are :
+  numbers_are :
       (l : List ℕ) (i n : ℕ) → length l ≡ n → ((j k : ℕ) → k ≡ i + j → j < n → get_or l j 0 ≡ (answer k).number)
       → l ≡ numbers_of (answers_from answer i n)
-  numbers-are [] i zero e h = refl
-  numbers-are [] i (suc n) e h = absurd (omega arith)
-  numbers-are (x ∷ l) i zero e h = absurd (omega arith)
-  numbers-are (x ∷ l) i (suc n) e h =
+  numbers_are [] i zero e h = refl
+  numbers_are [] i (suc n) e h = absurd (omega arith)
+  numbers_are (x ∷ l) i zero e h = absurd (omega arith)
+  numbers_are (x ∷ l) i (suc n) e h =
       ap₂ (λ (y : ℕ) (ys : List ℕ). y ∷ ys) (h 0 i (omega arith) (omega arith))
-      (numbers-are l (suc i) n (omega arith) (λ j k a b. h (suc j) k (omega arith) (omega arith)))
+      (numbers_are l (suc i) n (omega arith) (λ j k a b. h (suc j) k (omega arith) (omega arith)))
 
   words_are :
       (l : List ℕ) (i n : ℕ) → length l ≡ 2 * n
@@ -95,7 +95,7 @@ module _ (answer : ℕ → WordAnswer) where
       at j k a b = w.written j (omega arith) b ∙ ap answer {x = j} {y = k} (omega arith)
 
       numbers : ns ≡ numbers_of (answers_from answer 0 n)
-      numbers = numbers-are ns 0 n w.matched.numbers (λ j k a b. ap (λ (x : WordAnswer). x.number) (at j k a b))
+      numbers = numbers_are ns 0 n w.matched.numbers (λ j k a b. ap (λ (x : WordAnswer). x.number) (at j k a b))
 
       words : ws ≡ words_of (answers_from answer 0 n)
       words =

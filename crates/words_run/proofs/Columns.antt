@@ -52,10 +52,10 @@ module _ {w p : ℕ} {q : Place} (a : At w p q) where
       let h : 0 < w = omega (arith, a.inside) in
       ap (λ (n : ℕ). n / w) (sym a.place) ∙ mul-add-div_right h q.y q.x ∙ (omega (arith, div-eq_of_lt a.inside))
 
-  pub answer-here :
+  pub answer_here :
       (siz dither : ℕ) (e : FramebufferEncoding) (f : Frame)
       → answer_at siz q.x q.y dither e (pixel_at f p) ≡ answer_in w siz dither e f p
-  answer-here siz dither e f = λ i. answer_at siz (sym column_is i) (sym row_is i) dither e (pixel_at f p)
+  answer_here siz dither e f = λ i. answer_at siz (sym column_is i) (sym row_is i) dither e (pixel_at f p)
 
 -- ---- a byte by the column, and a word by the size
 module _ (x : ℕ) (c : Rgba8) {n : ℕ} where
@@ -111,11 +111,11 @@ module _ (w fmt p dither : ℕ) (e : FramebufferEncoding) (c : Pixel) where
       sym (color_by (record { fmt = fmt; siz = 1; width = w }) (bytes_of c) (or_zero (coverage_of c.mark c.coverage)) p dither e true refl)
       ∙ sym (writes 1 s)
 
-  pub word-is :
+  pub word_is :
       (siz : ℕ) → supported_of (writer_by w fmt siz) ≡ true → readable c.mark siz ≡ true
       → word_at siz (p % w) (p / w) dither e (bytes_of c) c.coverage ≡ word_by (writer_by w fmt siz) p dither e c
   unfolding supported_of color_supported
-  word-is siz s r = go (eqb siz 2) refl (eqb siz 1) refl s
+  word_is siz s r = go (eqb siz 2) refl (eqb siz 1) refl s
     where
       Goal : ℕ → Type 0
       Goal z =
@@ -142,5 +142,5 @@ module _ (a : ReadArgs) (w h : ℕ) (f : Frame) (z : frame_refusal f w h ≡ 0) 
           (b : Bool) → readable (get_or f.marks a.pixel 0) a.siz ≡ b
           → ◌≡◌ {A = WordAnswer} (cond b (record { number = 0; word = x }) (record { number = 10; word = (0, 0) })) (read_answer a w h f)
       go true r =
-          read a w h f refl z p s r refl (word-is w a.fmt a.pixel a.dither a.encoding (pixel_at f a.pixel) a.siz s r)
+          read a w h f refl z p s r refl (word_is w a.fmt a.pixel a.dither a.encoding (pixel_at f a.pixel) a.siz s r)
       go false r = tenth a w h f refl z p s r

@@ -49,10 +49,10 @@ module _ (answer : ℕ → WordAnswer) (lo : ℕ) {n : ℕ} {s : Entries} where
   pub wrote_none : Matched n s → Wrote answer lo lo n s s
   wrote_none m = record { matched = m; written = λ i a b. absurd (omega arith); kept = λ i a. λ j. entry_at s i }
 
-  pub wrote-more :
+  pub wrote_more :
       {i : ℕ} {t u : Entries} {x : WordAnswer} → Wrote answer lo i n s t → lo ≤ i → i < n → x ≡ answer i → u ≡ put_entry t i x
       → Wrote answer lo (i + 1) n s u
-  wrote-more {i} {t} {u} {x} w a h e p =
+  wrote_more {i} {t} {u} {x} w a h e p =
       subst (λ (v : Entries). Wrote answer lo (i + 1) n s v) (sym p)
       (record {
         matched = put_matched w.matched i x;
@@ -74,10 +74,10 @@ pub wrote_as :
 wrote_as e w = record { matched = w.matched; written = λ i a b. w.written i a b ∙ e i a b; kept = w.kept }
 
 -- two parts, one after the other
-pub wrote-both :
+pub wrote_both :
     {answer : ℕ → WordAnswer} {lo mid hi n m : ℕ} {s t u : Entries} → lo ≤ mid → Wrote answer lo mid n s t → Wrote answer mid hi m t u
     → Wrote answer lo hi m s u
-wrote-both {answer} {lo} {mid} {hi} {n} {m} {s} {t} {u} l a b =
+wrote_both {answer} {lo} {mid} {hi} {n} {m} {s} {t} {u} l a b =
     record { matched = b.matched; written = λ i p q. go i p q (dec_lt i mid); kept = λ i p. b.kept i (omega arith) ∙ a.kept i p }
   where
     go : (i : ℕ) → lo ≤ i → i < hi → Dec (i < mid) → entry_at u i ≡ answer i
@@ -97,18 +97,18 @@ module _ {n : ℕ} {s t : Entries} (a : Matched n s) (b : Matched n t) where
 
 -- ---- the entry of a pixel that numbers 1 to 9 let through, by number 10
 module _ (siz x y dither : ℕ) (e : FramebufferEncoding) (c : Pixel) (s : Entries) (i : ℕ) {t : Entries} where
-  stored-as :
+  stored_as :
       {a b : WordAnswer} → a ≡ b → t ≡ put_entry s i a → (t ≡ put_entry s i b) × (one_if a.number ≡ one_if b.number)
-  stored-as p h = (h ∙ ap (put_entry s i) p, ap (λ (a : WordAnswer). one_if a.number) p)
+  stored_as p h = (h ∙ ap (put_entry s i) p, ap (λ (a : WordAnswer). one_if a.number) p)
 
-  pub entry-refused :
+  pub entry_refused :
       readable c.mark siz ≡ false → t ≡ put_entry s i (refused_by 10)
       → (t ≡ put_entry s i (answer_at siz x y dither e c)) × (0 ≡ one_if (answer_at siz x y dither e c).number)
   unfolding answer_at
-  entry-refused r h = stored-as {a = refused_by 10} (λ j. cond (sym r j) (answer_of 0 (word_at siz x y dither e (bytes_of c) c.coverage)) (refused_by 10)) h
+  entry_refused r h = stored_as {a = refused_by 10} (λ j. cond (sym r j) (answer_of 0 (word_at siz x y dither e (bytes_of c) c.coverage)) (refused_by 10)) h
 
   pub entry_read :
       {w : Bytes2} → readable c.mark siz ≡ true → w ≡ word_at siz x y dither e (bytes_of c) c.coverage → t ≡ put_entry s i (answer_of 0 w)
       → (t ≡ put_entry s i (answer_at siz x y dither e c)) × (1 ≡ one_if (answer_at siz x y dither e c).number)
   unfolding answer_at
-  entry_read {w} r q h = stored-as {a = answer_of 0 w} (λ j. cond (sym r j) (answer_of 0 (q j)) (refused_by 10)) h
+  entry_read {w} r q h = stored_as {a = answer_of 0 w} (λ j. cond (sym r j) (answer_of 0 (q j)) (refused_by 10)) h

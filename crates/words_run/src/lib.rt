@@ -1,8 +1,8 @@
 // A run of words read from the lent frame in one go: each pixel's answer is that of its single read.
 #![tactic(auto)]
 
-ghost use Rattle.frame.specs.Frame.{frame_of};
 ghost use Rattle.std.specs.Prelude.{◌≡◌, ℕ, ◌+◌, ◌-◌, ◌*◌, ◌<◌, ◌≤◌, min, eqb, length};
+ghost use Rattle.frame.specs.Frame.{frame_of};
 ghost use Rattle.frame.specs.Lent.{old, new};
 ghost use Rattle.frame.specs.Checks.{frame_refusal};
 ghost use Rattle.words_read.specs.Read.{read_args, read_answer};

@@ -46,14 +46,14 @@ module _ (mode : RenderMode) (m : ℕ) (h : m < 256) where
   unfolding destination_call
   destination_by_count c = by_count m h (coverage_ok c) (λ n. destination_of mode n c) 0
 
-  pub color-known-by-count :
+  pub color_known_by_count :
       (alpha : Float) (coverage : Coverage) (memory : Bool)
       → color_known_call mode alpha m coverage memory ≡ counted (known_ok coverage) (λ n. color_known mode alpha n coverage memory) false (ones_of m)
   unfolding color_known_call
-  color-known-by-count alpha coverage memory = by_count m h (known_ok coverage) (λ n. color_known mode alpha n coverage memory) false
+  color_known_by_count alpha coverage memory = by_count m h (known_ok coverage) (λ n. color_known mode alpha n coverage memory) false
 
-  pub blend-by-count :
+  pub blend_by_count :
       (combiner : Combiner) (rgba memory : Rgba) (shade : Float) (c : ℕ)
       → blend_call mode combiner rgba memory shade m c ≡ counted (coverage_ok c) (λ n. blend_of mode combiner rgba memory shade n c) no_bytes (ones_of m)
   unfolding blend_call
-  blend-by-count combiner rgba memory shade c = by_count m h (coverage_ok c) (λ n. blend_of mode combiner rgba memory shade n c) no_bytes
+  blend_by_count combiner rgba memory shade c = by_count m h (coverage_ok c) (λ n. blend_of mode combiner rgba memory shade n c) no_bytes

@@ -8,7 +8,7 @@ use Rattle.raster_admitted.proofs.Choices.{taken, passed}
 use Rattle.raster_pixel.specs.Near.{CornersNear}
 use Rattle.raster_pixel.proofs.Checked.{placed, sorted_near}
 use Rattle.rasterize_slow.specs.Shape.{TameShape, shape_fragment}
-use Rattle.rasterize_slow.proofs.Emitted.{skipped-fragment}
+use Rattle.rasterize_slow.proofs.Emitted.{skipped_fragment}
 use Rattle.rasterize_slow.proofs.Shapes.{triangle_tame}
 use Rattle.c_emitted.specs.Emitted.{emitted_triangle}
 use borrow.Author.Rules.{rules}
@@ -45,7 +45,7 @@ returns c =
     let e = c.before.before in
     let a = e.args in
     passed _ _ _ (in_place e)
-    (c.pixel.ensures ∙ (λ i. shape_fragment a.antialias a.combiner (c.triangle-shape.ensures i) a.y a.x) ∙ skipped-fragment a.antialias a.combiner a.y a.x a.cull a.a a.b a.c)
+    (c.pixel.ensures ∙ (λ i. shape_fragment a.antialias a.combiner (c.triangle-shape.ensures i) a.y a.x) ∙ skipped_fragment a.antialias a.combiner a.y a.x a.cull a.a a.b a.c)
 
 pub triangle_spec : {M : Type 1} → statement M
 triangle_spec =

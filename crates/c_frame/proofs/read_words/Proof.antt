@@ -3,7 +3,7 @@ use mathlib.Core.Path.{◌∙◌}
 use Rattle.frame.specs.Frame.{frame_of}
 use Rattle.words_read.specs.Read.{read_args}
 use Rattle.words_run.specs.Run.{run_answer}
-use Rattle.c_frame.proofs.Runs.{ran-as}
+use Rattle.c_frame.proofs.Runs.{ran_as}
 use borrow.Author.Rules.{rules}
 use Rattle.c_frame.proofs.read_words.Statement.{statement}
 use Rattle.c_frame.proofs.read_words.Tie as tie
@@ -28,7 +28,7 @@ returns c =
     let a = c.args in
     let f = frame_of a.colors.now a.coverages.now a.marks.now in
     let o = c.byte_order-order.ensures in
-    ran-as c.read_words-answer.result _ _ c.ran.ensures
+    ran_as c.read_words-answer.result _ _ c.ran.ensures
     (c.read_words-answer.ensures.0
     ∙ (λ i. run_answer (read_args a.first a.fmt a.siz a.rgb_dither (o i)) a.width a.height f a.words.now a.numbers.now))
 

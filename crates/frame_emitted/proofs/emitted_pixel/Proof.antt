@@ -1,7 +1,7 @@
 -- `emitted_pixel` meets its contract: the answer follows from the plan.
 use borrow.Author.Rules.{rules}
 use Rattle.frame_draw.specs.Draw.{draw_args}
-use Rattle.frame_emitted.proofs.Answers.{pixel_refused, listable, pixel-accepted}
+use Rattle.frame_emitted.proofs.Answers.{pixel_refused, listable, pixel_accepted}
 use Rattle.frame_emitted.proofs.emitted_pixel.Statement.{statement}
 use Rattle.frame_emitted.proofs.emitted_pixel.Tie as tie
 
@@ -27,7 +27,7 @@ returns-in-Refused c =
 returns-in-With : tie.Need-returns-in-With
 returns-in-With c =
     let a = c.args in
-    pixel-accepted (draw_args a.mode a.uniform a.cull a.scissor a.geometry a.vertices.now a.present.now a.indices.now) _ _ _ _
+    pixel_accepted (draw_args a.mode a.uniform a.cull a.scissor a.geometry a.vertices.now a.present.now a.indices.now) _ _ _ _
     c.accept.ensures c.in-With.is c.pixel_at.result _ c.pixel_at.ensures.0 c.pixel_at.ensures.1
 
 pub emitted_pixel_spec : {M : Type 1} → statement M

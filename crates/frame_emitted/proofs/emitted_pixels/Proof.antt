@@ -1,7 +1,7 @@
 -- `emitted_pixels` meets its contract: answer and slots follow from the plan.
 use borrow.Author.Rules.{rules}
 use Rattle.frame_draw.specs.Draw.{draw_args}
-use Rattle.frame_emitted.proofs.Answers.{run-refused, run-unequal, listable, run-accepted}
+use Rattle.frame_emitted.proofs.Answers.{run_refused, run_unequal, listable, run_accepted}
 use Rattle.frame_emitted.proofs.emitted_pixels.Statement.{statement}
 use Rattle.frame_emitted.proofs.emitted_pixels.Tie as tie
 
@@ -16,7 +16,7 @@ enum_known-combiner c = search rules
 
 returns-then-pixels-masks : tie.Need-returns-then-pixels-masks
 returns-then-pixels-masks c =
-    run-unequal _ _ _ _ _ c.accept.ensures c.in-With.is _ _ _ c.if-pixels-masks.true
+    run_unequal _ _ _ _ _ c.accept.ensures c.in-With.is _ _ _ c.if-pixels-masks.true
 
 list_from-emitted-requires : tie.Need-list_from-emitted-requires
 list_from-emitted-requires c κs =
@@ -30,7 +30,7 @@ slots_before-listed-requires c κs = search rules
 
 returns-in-Refused : tie.Need-returns-in-Refused
 returns-in-Refused c =
-    run-refused _ _ _ _ _ c.accept.ensures c.in-Refused.is _ _ _
+    run_refused _ _ _ _ _ c.accept.ensures c.in-Refused.is _ _ _
 
 shape_of-pixels : tie.Need-shape_of-pixels
 shape_of-pixels c = search rules
@@ -41,7 +41,7 @@ shape_of-masks c = search rules
 returns-else-pixels-masks : tie.Need-returns-else-pixels-masks
 returns-else-pixels-masks c =
     let a = c.args in
-    run-accepted (draw_args a.mode a.uniform a.cull a.scissor a.geometry a.vertices.now a.present.now a.indices.now) _ _ _ _
+    run_accepted (draw_args a.mode a.uniform a.cull a.scissor a.geometry a.vertices.now a.present.now a.indices.now) _ _ _ _
     c.accept.ensures c.in-With.is c.list_from-emitted.ensures _ c.if-pixels-masks.false c.slots_before-listed.ensures
 
 pub emitted_pixels_spec : {M : Type 1} → statement M

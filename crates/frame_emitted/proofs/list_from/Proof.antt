@@ -1,7 +1,7 @@
 -- `list_from` meets its contract: the pixels of the slots, and zeros past the last.
 use borrow.Author.Rules.{rules}
 use mathlib.Core.Path.{refl}
-use Rattle.frame_emitted.proofs.Slots.{run-listed}
+use Rattle.frame_emitted.proofs.Slots.{run_listed}
 use Rattle.frame_emitted.proofs.list_from.Statement.{statement}
 use Rattle.frame_emitted.proofs.list_from.Tie as tie
 
@@ -22,7 +22,7 @@ shape_of-masks c = search rules
 
 returns : tie.Need-returns
 returns c =
-    run-listed _ c.requires.0 refl c.requires.1.1.1 c.list_by-count.ensures c.slots_before-listed.ensures c.clear.ensures
+    run_listed _ c.requires.0 refl c.requires.1.1.1 c.list_by-count.ensures c.slots_before-listed.ensures c.clear.ensures
 
 pub list_from_spec : {M : Type 1} → statement M
 list_from_spec =

@@ -2,7 +2,7 @@
 use mathlib.Core.Path.{sym, ap, ◌∙◌}
 use Rattle.blender.specs.Joined.{joined}
 use Rattle.frame_pixel.specs.Rules.{rule_f2, memory_of}
-use Rattle.frame_pixel.proofs.Colorings.{in_doubt, fell_back, was-stored}
+use Rattle.frame_pixel.proofs.Colorings.{in_doubt, fell_back, was_stored}
 use borrow.Author.Rules.{rules}
 use Rattle.frame_pixel.proofs.blended.Statement.{statement}
 use Rattle.frame_pixel.proofs.blended.Tie as tie
@@ -61,7 +61,7 @@ returns-in-Stored c =
     let m = b.memory_of-memory in
     let marked = b.color_marked.ensures in
     let told = sym (b.blend_known.ensures ∙ (λ i. joined a.mode a.combiner a.source (s.requires i) m.result)) ∙ c.in-Stored.is in
-    was-stored a.mode a.combiner a.source a.bytes sure m.result (m.ensures.0 ∙ marked) (m.ensures.1 ∙ (λ i. memory_of (marked i) a.bytes)) told
+    was_stored a.mode a.combiner a.source a.bytes sure m.result (m.ensures.0 ∙ marked) (m.ensures.1 ∙ (λ i. memory_of (marked i) a.bytes)) told
 
 pub blended_spec : {M : Type 1} → statement M
 blended_spec =

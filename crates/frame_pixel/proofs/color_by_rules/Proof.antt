@@ -1,11 +1,11 @@
--- `color_by_rules` meets its contract: F1, then F2, and then the bytes of F3 (`not_known`, `in_doubt`, `was-known`). Assumes nothing.
+-- `color_by_rules` meets its contract: F1, then F2, and then the bytes of F3 (`not_known`, `in_doubt`, `was_known`). Assumes nothing.
 use mathlib.Core.Path.{◌≡◌, sym, ap, ◌∙◌}
 use mathlib.Core.Bool.{true}
 use Rattle.blender.specs.Blend.{or_zero, blend_of}
 use Rattle.frame_pixel.specs.declared.Colored.{Colored}
 use Rattle.frame_pixel.specs.Marks.{color_marked}
 use Rattle.frame_pixel.specs.Rules.{rule_f1, rule_f2, rule_f3, coverage_at, memory_of}
-use Rattle.frame_pixel.proofs.Colorings.{not_known, in_doubt, was-known}
+use Rattle.frame_pixel.proofs.Colorings.{not_known, in_doubt, was_known}
 use borrow.Author.Rules.{rules}
 use Rattle.frame_pixel.proofs.color_by_rules.Statement.{statement}
 use Rattle.frame_pixel.proofs.color_by_rules.Tie as tie
@@ -78,7 +78,7 @@ returns c =
     let bytes = c.blend-new.ensures ∙ (λ i. blend_of a.mode a.combiner a.source.color (memory i) a.source.shade_alpha a.source.count (samples i)) in
     let new : ◌≡◌ {A = Colored} _ _ = λ i. record { known = true; colors = record { red = (bytes i).r; green = (bytes i).g; blue = (bytes i).b } } in
     new
-    ∙ was-known a.mode a.combiner a.source a.bytes (sym (first k) ∙ d.if-not-color_known.false) (sym (second d) ∙ m.if-doubt.false)
+    ∙ was_known a.mode a.combiner a.source a.bytes (sym (first k) ∙ d.if-not-color_known.false) (sym (second d) ∙ m.if-doubt.false)
 
 pub color_by_rules_spec : {M : Type 1} → statement M
 color_by_rules_spec =

@@ -1,7 +1,7 @@
 -- `list_rectangle` meets its contract: the samples between its edges are those that it holds.
 use borrow.Author.Rules.{rules}
 use Rattle.raster_emitted.proofs.Listing.{listed_as}
-use Rattle.raster_emitted.proofs.Triangles.{rectangle-shape}
+use Rattle.raster_emitted.proofs.Triangles.{rectangle_shape}
 use Rattle.raster_emitted.proofs.list_rectangle.Statement.{statement}
 use Rattle.raster_emitted.proofs.list_rectangle.Tie as tie
 
@@ -23,7 +23,7 @@ returns c =
     let o = l.before.before.before in
     let s = o.before.before.before in
     let a = s.args in
-    listed_as (rectangle-shape a.antialias a.scissor a.width a.height a.sides s.requires.1.width_small s.requires.1.height_small o.outline-t.ensures) l.list_shape.ensures
+    listed_as (rectangle_shape a.antialias a.scissor a.width a.height a.sides s.requires.1.width_small s.requires.1.height_small o.outline-t.ensures) l.list_shape.ensures
 
 pub list_rectangle_spec : {M : Type 1} → statement M
 list_rectangle_spec =

@@ -3,7 +3,7 @@ use borrow.Author.Rules.{rules}
 use native.Mathlib.Omega.{arith}
 use Rattle.raster_pixel.proofs.Inside.{bounded}
 use Rattle.raster_emitted.proofs.Listing.{listed_as}
-use Rattle.raster_emitted.proofs.Triangles.{shape-rows}
+use Rattle.raster_emitted.proofs.Triangles.{shape_rows}
 use Rattle.raster_emitted.proofs.list_shape.Statement.{statement}
 use Rattle.raster_emitted.proofs.list_shape.Tie as tie
 
@@ -33,7 +33,7 @@ returns c =
     let l = c.before.before.before.before in
     let r = l.before.before.before in
     let a = r.args in
-    listed_as (shape-rows a.antialias a.t a.scissor a.width a.height r.scissor_area-area.ensures r.rows-rows.ensures) l.list_rows.ensures
+    listed_as (shape_rows a.antialias a.t a.scissor a.width a.height r.scissor_area-area.ensures r.rows-rows.ensures) l.list_rows.ensures
 
 pub list_shape_spec : {M : Type 1} → statement M
 list_shape_spec =

@@ -4,7 +4,7 @@ use Rattle.frame_paint.proofs.Drawing.{room_less}
 use Rattle.raster_pixel.proofs.Inside.{bounded}
 use Rattle.raster_pixel.proofs.Parts.{from_none}
 use Rattle.rasterize.proofs.Kept.{drew_nothing}
-use Rattle.rasterize.proofs.Shapes.{rectangle-drawn}
+use Rattle.rasterize.proofs.Shapes.{rectangle_drawn}
 use borrow.Author.Rules.{rules}
 use Rattle.rasterize.proofs.draw_rectangle.Statement.{statement}
 use Rattle.rasterize.proofs.draw_rectangle.Tie as tie
@@ -36,12 +36,12 @@ shape_of-marks-then-rows c = search rules
 returns-then-rows : tie.Need-returns-then-rows
 returns-then-rows c =
     let s = c.before.before.before.before.before.before.before.before.before.before.before.before.before.before.before.before.before.before in
-    rectangle-drawn _ s.requires.0.0 _ s.requires.1.wide s.requires.1.high _ c.outline-t.ensures c.scissor_area-area.ensures c.rows-rows.ensures c.draw_rows.ensures
+    rectangle_drawn _ s.requires.0.0 _ s.requires.1.wide s.requires.1.high _ c.outline-t.ensures c.scissor_area-area.ensures c.rows-rows.ensures c.draw_rows.ensures
 
 returns : tie.Need-returns
 returns c =
     let s = c.before.before.before.before.before.before.before.before in
-    rectangle-drawn _ s.requires.0.0 _ s.requires.1.wide s.requires.1.high _ c.outline-t.ensures c.scissor_area-area.ensures c.rows-rows.ensures
+    rectangle_drawn _ s.requires.0.0 _ s.requires.1.wide s.requires.1.high _ c.outline-t.ensures c.scissor_area-area.ensures c.rows-rows.ensures
     (drew_nothing (from_none _ _ _ c.if-rows.false) s.requires.1.fit)
 
 pub draw_rectangle_spec : {M : Type 1} → statement M

@@ -14,8 +14,8 @@ use Rattle.raster_pixel.specs.Emitted.{geometry_emits}
 use Rattle.frame.specs.Frame.{Frame}
 use Rattle.frame_paint.specs.Pixel.{Drew}
 use Rattle.frame_paint.specs.Paint.{Mixed}
-use Rattle.frame_paint.proofs.Drawing.{drew-as}
-use Rattle.frame_paint.proofs.Paints.{by-paint}
+use Rattle.frame_paint.proofs.Drawing.{drew_as}
+use Rattle.frame_paint.proofs.Paints.{by_paint}
 use Rattle.rasterize.proofs.Kept.{drew_nothing}
 use borrow.Author.Rules.{rules}
 use Rattle.rasterize.proofs.rasterize.Statement.{statement}
@@ -24,7 +24,7 @@ use Rattle.rasterize.proofs.rasterize.Tie as tie
 -- what a draw covers, by the case of its geometry
 module _ (mode : RenderMode) (k : Combiner) (cull : Bool) (s : Scissor) (w h : ℕ) (vs : List Float) (ps is : List ℕ) (geometry : Geometry) {m : ℕ} {f g : Frame} {n : ℕ} where
   covers : {x : Geometry} → geometry ≡ x → Drew mode k m (geometry_emits mode k cull s w h vs ps is x) f g n → Drew mode k m (geometry_emits mode k cull s w h vs ps is geometry) f g n
-  covers e = drew-as (ap (geometry_emits mode k cull s w h vs ps is) (sym e))
+  covers e = drew_as (ap (geometry_emits mode k cull s w h vs ps is) (sym e))
 
 prepare-paint-requires : tie.Need-prepare-paint-requires
 prepare-paint-requires c κs = c.requires.0.1
@@ -71,7 +71,7 @@ returns-in-Rectangle : tie.Need-returns-in-Rectangle
 returns-in-Rectangle c =
     let a = c.args in
     let e = c.prepare-paint.ensures in
-    by-paint e.0 e.1.0 (λ (q : RenderMode) (k : Combiner). geometry_emits q k a.cull a.scissor a.width a.height a.vertices.now a.present.now a.indices.now a.geometry)
+    by_paint e.0 e.1.0 (λ (q : RenderMode) (k : Combiner). geometry_emits q k a.cull a.scissor a.width a.height a.vertices.now a.present.now a.indices.now a.geometry)
     (covers _ _ _ _ _ _ _ _ _ _ c.in-Rectangle.is c.draw_rectangle.ensures)
 
 shape_of-colors-in-Triangles : tie.Need-shape_of-colors-in-Triangles
@@ -87,7 +87,7 @@ returns-in-Triangles : tie.Need-returns-in-Triangles
 returns-in-Triangles c =
     let a = c.args in
     let e = c.prepare-paint.ensures in
-    by-paint e.0 e.1.0 (λ (q : RenderMode) (k : Combiner). geometry_emits q k a.cull a.scissor a.width a.height a.vertices.now a.present.now a.indices.now a.geometry)
+    by_paint e.0 e.1.0 (λ (q : RenderMode) (k : Combiner). geometry_emits q k a.cull a.scissor a.width a.height a.vertices.now a.present.now a.indices.now a.geometry)
     (covers _ _ _ _ _ _ _ _ _ _ c.in-Triangles.is c.draw_triangles.ensures)
 
 pub rasterize_spec : {M : Type 1} → statement M

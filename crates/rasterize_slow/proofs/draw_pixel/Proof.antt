@@ -1,4 +1,4 @@
--- `draw_pixel` meets its contract: what the rules answer of what is known is stored as far as it is known, which is a step of the frame (`stored-known`).
+-- `draw_pixel` meets its contract: what the rules answer of what is known is stored as far as it is known, which is a step of the frame (`stored_known`).
 use Prim.Native.Nat.{ℕ, ◌≤◌, ◌<◌}
 use mathlib.Core.Path.{sym, subst, ◌∙◌}
 use mathlib.Core.Bool.{cond}
@@ -13,7 +13,7 @@ use Rattle.frame.specs.Fits.{Fit}
 use Rattle.frame.proofs.Loads.{fit_loadable}
 use Rattle.frame_paint.specs.Pixel.{emit_of}
 use Rattle.frame_paint.specs.Steps.{step_frame}
-use Rattle.frame_paint.proofs.Steps.{known_sound, stored-known}
+use Rattle.frame_paint.proofs.Steps.{known_sound, stored_known}
 use borrow.Author.Rules.{rules}
 use Rattle.rasterize_slow.proofs.draw_pixel.Statement.{statement}
 use Rattle.rasterize_slow.proofs.draw_pixel.Tie as tie
@@ -72,7 +72,7 @@ returns c =
     let p = drawn e in
     let s = e.before.before.before.before in
     let a = s.args in
-    stored-known a.mode a.combiner (frame s) a.pixel a.mask a.color a.shade_alpha c.ones-count.ensures c.known_pixel-before.ensures c.rules-after.ensures c.put_pixel.ensures
+    stored_known a.mode a.combiner (frame s) a.pixel a.mask a.color a.shade_alpha c.ones-count.ensures c.known_pixel-before.ensures c.rules-after.ensures c.put_pixel.ensures
     (omega (arith, p.0, p.1.colors)) (omega (arith, p.0, p.1.coverages))
     ∙ (λ i. cond (sym c.if-not-draws.false i) (stepped s) (frame s))
 

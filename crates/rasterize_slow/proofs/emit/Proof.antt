@@ -1,4 +1,4 @@
--- `emit` meets its contract: nothing, or one pixel (`sent-one`).
+-- `emit` meets its contract: nothing, or one pixel (`sent_one`).
 use mathlib.Core.Path.{sym, ap, subst}
 use Rattle.raster_pixel.specs.declared.Fragment.{Fragment}
 use Rattle.raster_pixel.specs.Emitted.{emits}
@@ -6,7 +6,7 @@ use Rattle.raster_pixel.proofs.Parts.{from_one}
 use Rattle.raster_emitted.proofs.Listing.{listed_as}
 use Rattle.frame_paint.specs.Pixel.{emit_of}
 use Rattle.rasterize_slow.specs.Shape.{HasSample}
-use Rattle.rasterize_slow.proofs.Sending.{sent_none, sent_as, sent-one}
+use Rattle.rasterize_slow.proofs.Sending.{sent_none, sent_as, sent_one}
 use borrow.Author.Rules.{rules}
 use Rattle.rasterize_slow.proofs.emit.Statement.{statement}
 use Rattle.rasterize_slow.proofs.emit.Tie as tie
@@ -48,7 +48,7 @@ returns c =
     let a = c.args in
     let v = c.in-Covered in
     sent_as (ap (λ (x : Fragment). emits x a.pixel) (sym c.in-Covered.is))
-    (sent-one (emit_of a.pixel v.mask (record { r = v.r; g = v.g; b = v.b; a = v.a }) v.shade_alpha) c.requires.0 (subst HasSample c.in-Covered.is c.requires.1.0) c.draw_pixel.ensures
+    (sent_one (emit_of a.pixel v.mask (record { r = v.r; g = v.g; b = v.b; a = v.a }) v.shade_alpha) c.requires.0 (subst HasSample c.in-Covered.is c.requires.1.0) c.draw_pixel.ensures
     (listed_as (from_one _ a.pixel) c.list_run.ensures))
 
 pub emit_spec : {M : Type 1} → statement M

@@ -5,12 +5,12 @@ use native.Mathlib.Omega.{arith}
 use Rattle.raster_pixel.specs.declared.Area.{Area}
 use Rattle.raster_pixel.specs.declared.Geometry.{Geometry}
 use Rattle.raster_pixel.specs.Admitted.{admitted_of}
-use Rattle.raster_pixel.proofs.Counts.{geometry-most}
+use Rattle.raster_pixel.proofs.Counts.{geometry_most}
 use Rattle.raster_pixel.proofs.Inside.{bounded}
 use Rattle.raster_pixel.proofs.Near.{admitted_near}
 use Rattle.frame_paint.proofs.Drawing.{room_less}
 use Rattle.rasterize_slow.specs.declared.Walk.{Walk}
-use Rattle.rasterize_slow.proofs.Emitted.{laid, walk-emits, sent-drew}
+use Rattle.rasterize_slow.proofs.Emitted.{laid, walk-emits, sent_drew}
 use Rattle.rasterize_slow.proofs.Sending.{sent_as}
 use borrow.Author.Rules.{rules}
 use Rattle.rasterize_slow.proofs.rasterize.Statement.{statement}
@@ -62,8 +62,8 @@ returns c =
     let a = s.args in
     let z = s.requires.1.1.0 in
     let walk = walk_of s q.scissor_area-area.result in
-    let few = geometry-most a.scissor z.width_small z.height_small a.mode a.combiner a.cull a.vertices.now a.present.now a.indices.now a.geometry in
-    sent-drew walk refl (omega (arith, few, s.requires.0))
+    let few = geometry_most a.scissor z.width_small z.height_small a.mode a.combiner a.cull a.vertices.now a.present.now a.indices.now a.geometry in
+    sent_drew walk refl (omega (arith, few, s.requires.0))
     (sent_as (walk-emits walk a.scissor a.height q.scissor_area-area.ensures a.cull a.vertices.now a.present.now a.indices.now a.geometry) v.visit.ensures)
 
 pub rasterize_spec : {M : Type 1} → statement M

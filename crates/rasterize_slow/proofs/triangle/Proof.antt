@@ -4,7 +4,7 @@ use mir.Val.{of_z, to_z}
 use mir.ValLaws.{to_z-of_z}
 use mathlib.Core.Path.{ap, sym, ◌∙◌}
 use Rattle.raster_pixel.proofs.Near.{near}
-use Rattle.rasterize_slow.proofs.Shapes.{culled_nothing, area_nothing, triangle-there}
+use Rattle.rasterize_slow.proofs.Shapes.{culled_nothing, area_nothing, triangle_there}
 use borrow.Author.Rules.{rules}
 use Rattle.rasterize_slow.proofs.triangle.Statement.{statement}
 use Rattle.rasterize_slow.proofs.triangle.Tie as tie
@@ -53,7 +53,7 @@ returns c =
     let q = t.before.before in
     let u = q.before.before.before.before in
     let s = u.args in
-    triangle-there s.cull s.a s.b s.c q.sort-v.ensures q.corners-corners.ensures q.quarter_area.ensures
+    triangle_there s.cull s.a s.b s.c q.sort-v.ensures q.corners-corners.ensures q.quarter_area.ensures
     (sym u.culled.ensures ∙ q.if-culled.false) (λ z. t.if-quarter_area-eq0.false (ap (of_z w64) z)) t.setup-t.ensures
 
 pub triangle_spec : {M : Type 1} → statement M

@@ -2,7 +2,7 @@
 use native.Mathlib.Omega.{arith}
 use lib.ListN.{get_or}
 use Rattle.frame.proofs.Loads.{known_or_zero}
-use Rattle.words_read.proofs.Reading.{encoded-with}
+use Rattle.words_read.proofs.Reading.{encoded_with}
 use borrow.Author.Rules.{rules}
 use Rattle.words_read.proofs.encoded.Statement.{statement}
 use Rattle.words_read.proofs.encoded.Tie as tie
@@ -22,7 +22,7 @@ encode-requires c κs =
 returns : tie.Need-returns
 returns c =
     let a = c.args in
-    encoded-with _ _ _ _ c.encode.ensures c.color-color.ensures (known_or_zero (get_or a.marks.now a.pixel 0) (get_or a.coverages.now a.pixel 0) c.known_coverage-coverage.ensures)
+    encoded_with _ _ _ _ c.encode.ensures c.color-color.ensures (known_or_zero (get_or a.marks.now a.pixel 0) (get_or a.coverages.now a.pixel 0) c.known_coverage-coverage.ensures)
 
 pub encoded_spec : {M : Type 1} → statement M
 encoded_spec = tie.close (tie.spec color-color-requires known_coverage-coverage-requires encode-requires returns)

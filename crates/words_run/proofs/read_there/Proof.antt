@@ -3,7 +3,7 @@ use mathlib.Core.Path.{ap, ◌∙◌}
 use Rattle.words_pack.specs.Writer.{supported_of}
 use Rattle.frame.proofs.Tests.{was_true, was_false}
 use Rattle.words_read.specs.Read.{read_args}
-use Rattle.words_run.proofs.Ran.{there-ninth, there-read, readable-there}
+use Rattle.words_run.proofs.Ran.{there_ninth, there_read, readable_there}
 use borrow.Author.Rules.{rules}
 use Rattle.words_run.proofs.read_there.Statement.{statement}
 use Rattle.words_run.proofs.read_there.Tie as tie
@@ -27,13 +27,13 @@ returns-then-not-supported : tie.Need-returns-then-not-supported
 returns-then-not-supported c =
     let a = c.args in
     let r = read_args a.first a.fmt a.siz a.rgb_dither a.encoding in
-    there-ninth r _ _ _ c.requires.0 c.requires.1.0.0 (was_false (c.supported.ensures ∙ ap supported_of c.writer-writer.ensures) c.if-not-supported.true-raw) c.fill.ensures
+    there_ninth r _ _ _ c.requires.0 c.requires.1.0.0 (was_false (c.supported.ensures ∙ ap supported_of c.writer-writer.ensures) c.if-not-supported.true-raw) c.fill.ensures
 
 read_entries-requires : tie.Need-read_entries-requires
 read_entries-requires c κs =
     let a = c.args in
     let r = read_args a.first a.fmt a.siz a.rgb_dither a.encoding in
-    readable-there r _ _ _ c.requires.0 c.requires.1.0.0 c.requires.1.0.1 c.requires.1.1
+    readable_there r _ _ _ c.requires.0 c.requires.1.0.0 c.requires.1.0.1 c.requires.1.1
 
 shape_of-words : tie.Need-shape_of-words
 shape_of-words c = search rules
@@ -45,7 +45,7 @@ returns : tie.Need-returns
 returns c =
     let a = c.args in
     let r = read_args a.first a.fmt a.siz a.rgb_dither a.encoding in
-    there-read r _ _ _ c.requires.0 c.requires.1.0.0 (was_true (c.supported.ensures ∙ ap supported_of c.writer-writer.ensures) c.if-not-supported.false-raw) c.read_entries.ensures
+    there_read r _ _ _ c.requires.0 c.requires.1.0.0 (was_true (c.supported.ensures ∙ ap supported_of c.writer-writer.ensures) c.if-not-supported.false-raw) c.read_entries.ensures
 
 pub read_there_spec : {M : Type 1} → statement M
 read_there_spec =

@@ -4,7 +4,7 @@ use native.Mathlib.Omega.{arith}
 use lib.Dec.{lit≤}
 use Rattle.frame.proofs.Tests.{was_true, was_false}
 use Rattle.words_read.specs.Read.{read_args}
-use Rattle.words_run.proofs.Ran.{matched_by, run_unmatched, run-refused, run-read}
+use Rattle.words_run.proofs.Ran.{matched_by, run_unmatched, run_refused, run_read}
 use borrow.Author.Rules.{rules}
 use Rattle.words_run.proofs.read_words.Statement.{statement}
 use Rattle.words_run.proofs.read_words.Tie as tie
@@ -36,7 +36,7 @@ returns-then-refusal-ne0 : tie.Need-returns-then-refusal-ne0
 returns-then-refusal-ne0 c =
     let a = c.args in
     let r = read_args a.first a.fmt a.siz a.rgb_dither a.encoding in
-    (run-refused r _ _ _ (was_true c.is_matched.ensures c.if-not-is_matched.false-raw) c.frame_refusal-refusal.ensures c.if-refusal-ne0.true c.fill.ensures, tt)
+    (run_refused r _ _ _ (was_true c.is_matched.ensures c.if-not-is_matched.false-raw) c.frame_refusal-refusal.ensures c.if-refusal-ne0.true c.fill.ensures, tt)
 
 entries_there-there-requires : tie.Need-entries_there-there-requires
 entries_there-there-requires c κs = search rules
@@ -62,7 +62,7 @@ returns : tie.Need-returns
 returns c =
     let a = c.args in
     let r = read_args a.first a.fmt a.siz a.rgb_dither a.encoding in (
-      run-read r _ _ _ (was_true c.is_matched.ensures c.if-not-is_matched.false-raw) (sym c.frame_refusal-refusal.ensures ∙ c.if-refusal-ne0.false)
+      run_read r _ _ _ (was_true c.is_matched.ensures c.if-not-is_matched.false-raw) (sym c.frame_refusal-refusal.ensures ∙ c.if-refusal-ne0.false)
           c.entries_there-there.ensures c.read_there-read.ensures c.fill-2.ensures,
       tt,
     )

@@ -2,7 +2,7 @@
 use mathlib.Core.Path.{sym, ◌∙◌}
 use Rattle.frame.specs.Finding.{Tells}
 use Rattle.frame.proofs.Tests.{was_true, was_false}
-use Rattle.frame.proofs.Refusals.{marks_high, marks_unmarked, marks-marked}
+use Rattle.frame.proofs.Refusals.{marks_high, marks_unmarked, marks_marked}
 use Rattle.frame.proofs.refusal.look.Statement.{statement}
 use Rattle.frame.proofs.refusal.look.Tie as tie
 
@@ -33,7 +33,7 @@ returns-then-all_low c =
     let s = e.before.before.before.before.before in
     sym c.if-all_low.true
     ∙ c.all_low.ensures
-    ∙ marks-marked _ _ s.requires (was_true s.see-seen.ensures.low e.if-not-seen.false) (was_true s.see-seen.ensures.marked e.if-not-seen-2.false)
+    ∙ marks_marked _ _ s.requires (was_true s.see-seen.ensures.low e.if-not-seen.false) (was_true s.see-seen.ensures.marked e.if-not-seen-2.false)
 
 returns : tie.Need-returns
 unfolding Tells
@@ -42,7 +42,7 @@ returns c =
     let s = e.before.before.before.before.before in
     sym c.if-all_low.false
     ∙ c.all_low.ensures
-    ∙ marks-marked _ _ s.requires (was_true s.see-seen.ensures.low e.if-not-seen.false) (was_true s.see-seen.ensures.marked e.if-not-seen-2.false)
+    ∙ marks_marked _ _ s.requires (was_true s.see-seen.ensures.low e.if-not-seen.false) (was_true s.see-seen.ensures.marked e.if-not-seen-2.false)
 
 pub look_spec : {M : Type 1} → statement M
 look_spec = tie.close (tie.spec see-seen-requires returns-then-not-seen returns-then-seen returns-then-not-seen-2 all_low-requires returns-then-all_low returns)

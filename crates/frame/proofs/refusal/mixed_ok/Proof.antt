@@ -8,7 +8,7 @@ use lib.ListN.{length, drop}
 use Rattle.frame_pixel.specs.Marks.{highest_mark}
 use Rattle.frame.specs.Checks.{marks_ok}
 use Rattle.frame.specs.Finding.{at_most}
-use Rattle.frame.proofs.Refusals.{found_next, found_done, every_at, marks-more, marks_none}
+use Rattle.frame.proofs.Refusals.{found_next, found_done, every_at, marks_more, marks_none}
 use Rattle.frame.proofs.refusal.mixed_ok.Statement.{statement}
 use Rattle.frame.proofs.refusal.mixed_ok.Tie as tie
 
@@ -33,7 +33,7 @@ loop-i-smaller c = omega arith
 loop-i-preserved : tie.Need-loop-i-preserved invariant-loop decreases-loop
 loop-i-preserved c =
     let l = c.before.before in
-    found_next l.loop-i.ok _ c.mark_ok-good.ensures (marks-more _ _ l.requires.0 c.loop-i-test.true) l.loop-i.invariant
+    found_next l.loop-i.ok _ c.mark_ok-good.ensures (marks_more _ _ l.requires.0 c.loop-i-test.true) l.loop-i.invariant
 
 returns : tie.Need-returns invariant-loop decreases-loop
 returns c = found_done c.loop-i.ok (marks_none _ _ c.loop-i-test.false) c.loop-i.invariant

@@ -6,7 +6,7 @@ use lib.ListN.{length, drop, length-take, length-drop}
 use borrow.Author.Rules.{rules}
 use Rattle.frame.specs.Checks.{marks_ok}
 use Rattle.frame.proofs.Tests.{was_true, was_false, stops, goes_on}
-use Rattle.frame.proofs.Refusals.{marks_none, marks-part}
+use Rattle.frame.proofs.Refusals.{marks_none, marks_part}
 use Rattle.frame.proofs.refusal.parts_ok.Statement.{statement}
 use Rattle.frame.proofs.refusal.parts_ok.Tie as tie
 
@@ -46,7 +46,7 @@ part_ok-requires c κs = simp (length-take, length-drop, c.requires)
 returns-then-not-part_ok : tie.Need-returns-then-not-part_ok invariant-loop decreases-loop
 returns-then-not-part_ok c =
     let e = c.before.before.before.before in
-    stops _ (was_false c.part_ok.ensures c.if-not-part_ok.true-raw) ∙ sym (marks-part _ _ e.part_end-end.ensures.0) ∙ e.loop-start.invariant
+    stops _ (was_false c.part_ok.ensures c.if-not-part_ok.true-raw) ∙ sym (marks_part _ _ e.part_end-end.ensures.0) ∙ e.loop-start.invariant
 
 loop-start-smaller : tie.Need-loop-start-smaller invariant-loop decreases-loop
 loop-start-smaller c = omega arith
@@ -54,7 +54,7 @@ loop-start-smaller c = omega arith
 loop-start-preserved : tie.Need-loop-start-preserved invariant-loop decreases-loop
 loop-start-preserved c =
     let e = c.before.before.before.before in
-    goes_on (was_true c.part_ok.ensures c.if-not-part_ok.false-raw) refl ∙ sym (marks-part _ _ e.part_end-end.ensures.0) ∙ e.loop-start.invariant
+    goes_on (was_true c.part_ok.ensures c.if-not-part_ok.false-raw) refl ∙ sym (marks_part _ _ e.part_end-end.ensures.0) ∙ e.loop-start.invariant
 
 returns : tie.Need-returns invariant-loop decreases-loop
 returns c = marks_none _ _ c.loop-start-test.false ∙ c.loop-start.invariant

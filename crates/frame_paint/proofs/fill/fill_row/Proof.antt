@@ -1,4 +1,4 @@
--- `fill_row` meets its contract: a loop over the pixels of the run, each of which is a step (`filled-drew`).
+-- `fill_row` meets its contract: a loop over the pixels of the run, each of which is a step (`filled_drew`).
 use Prim.Native.Nat.{◌+◌, ◌-◌, ◌*◌, ◌≤◌}
 use native.Mathlib.Omega.{arith}
 use native.Mathlib.Nat.{suc-mul}
@@ -12,8 +12,8 @@ use Rattle.raster_pixel.proofs.Parts.{from_shift}
 use Rattle.frame.specs.Frame.{frame_of}
 use Rattle.frame.proofs.Fits.{pixels_le}
 use Rattle.frame_paint.specs.Row.{full_pixel}
-use Rattle.frame_paint.proofs.Drawing.{Drawing, drawing_start, drawing_count, drawing_more, drawing_done, drew-as, drew-count, same_colors, same_coverages, same_marks, long_now}
-use Rattle.frame_paint.proofs.Filled.{filled-drew, run_length}
+use Rattle.frame_paint.proofs.Drawing.{Drawing, drawing_start, drawing_count, drawing_more, drawing_done, drew_as, drew_count, same_colors, same_coverages, same_marks, long_now}
+use Rattle.frame_paint.proofs.Filled.{filled_drew, run_length}
 use borrow.Author.Rules.{rules}
 use Rattle.frame_paint.proofs.fill.fill_row.Statement.{statement}
 use Rattle.frame_paint.proofs.fill.fill_row.Tie as tie
@@ -82,7 +82,7 @@ loop-pixel-preserved c = (
       let l = i.before in
       let d = l.loop-pixel.invariant.1 mode k color o e in
       drawing_count _ _ _ _ _ _ (omega (arith, l.loop-pixel.invariant.0))
-      (drawing_more _ _ _ _ _ _ i.loop-pixel-test.true d (filled-drew o e d.fit f.fill_pixel.ensures) (sym d.fit.marks)),
+      (drawing_more _ _ _ _ _ _ i.loop-pixel-test.true d (filled_drew o e d.fit f.fill_pixel.ensures) (sym d.fit.marks)),
 )
 
 overflow_sub-count : tie.Need-overflow_sub-count invariant-loop decreases-loop
@@ -112,8 +112,8 @@ returns c =
     let a = s.args in
     let d = c.loop-pixel.invariant.1 _ _ _ s.requires.0.2.full (sym s.requires.0.2.even ∙ s.requires.0.3) in
     let e = drawing_done _ _ _ _ _ _ c.loop-pixel-test.false d in
-    drew-as (sym (from_shift (full_pixel a.paint.color) (a.y * a.width) a.start a.end))
-    (drew-count (e.ran.count ∙ run_length a.paint.color _ _ ∙ omega arith) e)
+    drew_as (sym (from_shift (full_pixel a.paint.color) (a.y * a.width) a.start a.end))
+    (drew_count (e.ran.count ∙ run_length a.paint.color _ _ ∙ omega arith) e)
 
 pub fill_row_spec : {M : Type 1} → statement M
 fill_row_spec =

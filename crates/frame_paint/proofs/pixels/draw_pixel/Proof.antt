@@ -1,4 +1,4 @@
--- `draw_pixel` meets its contract: what `frame_pixel::step` answers of what is known is stored as far as it is known, which is a step of the frame (`stored-known`). Assumes nothing.
+-- `draw_pixel` meets its contract: what `frame_pixel::step` answers of what is known is stored as far as it is known, which is a step of the frame (`stored_known`). Assumes nothing.
 use Prim.Native.Nat.{ℕ, ◌≤◌}
 use mathlib.Core.Path.{sym, subst}
 use native.Mathlib.Omega.{arith}
@@ -8,7 +8,7 @@ use Rattle.frame_pixel.specs.declared.Pixel.{Pixel}
 use Rattle.frame_pixel.specs.Rules.{coverage_at}
 use Rattle.frame.specs.Frame.{frame_of, pixel_at}
 use Rattle.frame.proofs.Loads.{fit_loadable}
-use Rattle.frame_paint.proofs.Steps.{known_sound, stored-known}
+use Rattle.frame_paint.proofs.Steps.{known_sound, stored_known}
 use borrow.Author.Rules.{rules}
 use Rattle.frame_paint.proofs.pixels.draw_pixel.Statement.{statement}
 use Rattle.frame_paint.proofs.pixels.draw_pixel.Tie as tie
@@ -50,7 +50,7 @@ shape_of-marks c = search rules
 
 returns : tie.Need-returns
 returns c =
-    stored-known _ _ _ _ _ _ _ c.ones-count.ensures c.known_pixel-before.ensures c.step-after.ensures c.put_pixel.ensures
+    stored_known _ _ _ _ _ _ _ c.ones-count.ensures c.known_pixel-before.ensures c.step-after.ensures c.put_pixel.ensures
     (omega (arith, c.requires.1.0, c.requires.1.1.0.colors))
     (omega (arith, c.requires.1.0, c.requires.1.1.0.coverages))
 

@@ -5,9 +5,9 @@ use native.Mathlib.Omega.{arith}
 use Rattle.raster_pixel.specs.Parts.{from}
 use Rattle.raster_pixel.proofs.Parts.{from_one, from_same}
 use Rattle.frame_paint.specs.Row.{hue_of, pixel_of, row_at, full_at}
-use Rattle.frame_paint.proofs.Drawing.{drew-as}
+use Rattle.frame_paint.proofs.Drawing.{drew_as}
 use Rattle.frame_paint.proofs.Paints.{own_bytes}
-use Rattle.frame_paint.proofs.Joins.{full-row}
+use Rattle.frame_paint.proofs.Joins.{full_row}
 use borrow.Author.Rules.{rules}
 use Rattle.frame_paint.proofs.rows.draw_part.Statement.{statement}
 use Rattle.frame_paint.proofs.rows.draw_part.Tie as tie
@@ -38,9 +38,9 @@ returns-then-x-next c =
     let s = t.before.before.before.before in
     let a = s.args in
     let r = s.requires.0.4 t.if-x-next.true in
-    drew-as
+    drew_as
     (from_same (full_at a.paint.color a.width a.y) (row_at a.paint a.flat a.row a.edges a.width a.y) a.x a.next
-    (λ x p q. full-row a.paint a.row a.edges a.width a.y x r.0 (s.requires.0.2 x (omega (arith, r.2)) (omega (arith, r.3)))))
+    (λ x p q. full_row a.paint a.row a.edges a.width a.y x r.0 (s.requires.0.2 x (omega (arith, r.2)) (omega (arith, r.3)))))
     f.fill_row.ensures
 
 samples-mask-requires : tie.Need-samples-mask-requires
@@ -69,7 +69,7 @@ returns c =
     let a = s.args in
     let c' = row_at a.paint a.flat a.row a.edges a.width a.y in
     let one : a.x + 1 ≡ a.next = omega (arith, e.if-x-next.false, s.requires.0.0) in
-    drew-as
+    drew_as
     ((λ i. pixel_of a.paint.mode.antialias (m.samples-mask.ensures i) (hue_of a.paint.resolved a.paint.color a.flat a.row a.x) a.width a.y a.x)
     ∙ sym (from_one c' a.x)
     ∙ (λ i. from c' a.x (one i)))

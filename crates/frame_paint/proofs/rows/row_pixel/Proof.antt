@@ -8,7 +8,7 @@ use Rattle.frame.proofs.Fits.{pixels_le}
 use Rattle.frame_paint.specs.Steps.{step_frame}
 use Rattle.frame_paint.specs.Pixel.{emit_of}
 use Rattle.frame_paint.proofs.Drawing.{pixel_in}
-use Rattle.frame_paint.proofs.Steps.{pixel_none, pixel-one}
+use Rattle.frame_paint.proofs.Steps.{pixel_none, pixel_one}
 use borrow.Author.Rules.{rules}
 use Rattle.frame_paint.proofs.rows.row_pixel.Statement.{statement}
 use Rattle.frame_paint.proofs.rows.row_pixel.Tie as tie
@@ -63,7 +63,7 @@ returns c =
     let h = sym e.is_shown.ensures ∙ e.if-not-is_shown.false in
     let hue = u.hue_at-hue.ensures in
     let f = frame_of a.colors.now a.coverages.now a.marks.now in
-    pixel-one _ _ _ _ _ _ _ s.requires.1.fit h (shown_some a.mode.antialias a.mask h, omega arith)
+    pixel_one _ _ _ _ _ _ _ s.requires.1.fit h (shown_some a.mode.antialias a.mask h, omega arith)
     (d.draw_pixel.ensures ∙ (λ i. step_frame a.mode a.combiner f (emit_of (a.y * a.width + a.x) a.mask (hue i).color (hue i).shade_alpha)))
 
 pub row_pixel_spec : {M : Type 1} → statement M

@@ -4,7 +4,7 @@ use mathlib.Core.Path.{refl}
 use native.Mathlib.Omega.{arith}
 use borrow.Author.Rules.{rules}
 use Rattle.raster_emitted.specs.Listed.{slots_of, Filled}
-use Rattle.raster_emitted.proofs.Runs.{filled_none, filled_more, run-listed}
+use Rattle.raster_emitted.proofs.Runs.{filled_none, filled_more, run_listed}
 use Rattle.raster_emitted.proofs.slots.list_run.Statement.{statement}
 use Rattle.raster_emitted.proofs.slots.list_run.Tie as tie
 
@@ -67,7 +67,7 @@ returns : tie.Need-returns invariant-loop decreases-loop
 returns c =
     let l = c.loop-i.invariant in
     let s = c.before.before.before.before.before.before.before in
-    run-listed _ _ _ s.requires.0.within c.counted-end.ensures c.slots_before-start.ensures
+    run_listed _ _ _ s.requires.0.within c.counted-end.ensures c.slots_before-start.ensures
     (omega (arith, l.1, c.loop-i-test.false, c.slots_before-stop.ensures)) l.2
 
 pub list_run_spec : {M : Type 1} → statement M

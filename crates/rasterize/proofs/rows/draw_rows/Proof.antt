@@ -7,7 +7,7 @@ use borrow.Author.Rules.{rules}
 use Rattle.frame.specs.Frame.{frame_of}
 use Rattle.frame_paint.proofs.Drawing.{Drawing, drawing_start, drawing_fits, drawing_more, drawing_done, room_now, room_row, same_colors, same_coverages, same_marks}
 use Rattle.rasterize.specs.Shape.{shape_row}
-use Rattle.rasterize.proofs.Kept.{row_none, row-drawn, rows_most, drawing-skip, drawing-at}
+use Rattle.rasterize.proofs.Kept.{row_none, row_drawn, rows_most, drawing_skip, drawing_at}
 use Rattle.rasterize.proofs.rows.draw_rows.Statement.{statement}
 use Rattle.rasterize.proofs.rows.draw_rows.Tie as tie
 use Rattle.rasterize.proofs.rows.draw_rows.Lts.{then-start-end, else-start-end}
@@ -44,7 +44,7 @@ overflow_add-n : tie.Need-overflow_add-n invariant-loop decreases-loop
 overflow_add-n c =
     let s = c.before.before.before.before.before.before.before.before.before.before.before.before.before.before.before.before.before.before.before.before in
     let a = s.args in
-    let row = row-drawn a.paint a.shading a.t a.width a.left a.right _ c.edges_at-edges.ensures c.bounds-kept.ensures.0 c.is_flat-flat.ensures c.shades_on-row.ensures c.draw_row-n.ensures in
+    let row = row_drawn a.paint a.shading a.t a.width a.left a.right _ c.edges_at-edges.ensures c.bounds-kept.ensures.0 c.is_flat-flat.ensures c.shades_on-row.ensures c.draw_row-n.ensures in
     omega (
       arith,
       le_trans (drawing_fits _ _ _ _ _ _ c.loop-y-test.true c.loop-y.invariant row)
@@ -65,12 +65,12 @@ loop-y-preserved c =
     let b = c.bounds-kept.ensures.0 in
     elim c.if-start-end.branch [
       | then-start-end w ↦
-          drawing-at (λ i. frame_of (w.colors-is i) (w.coverages-is i) (w.marks-is i)) w.n-is
+          drawing_at (λ i. frame_of (w.colors-is i) (w.coverages-is i) (w.marks-is i)) w.n-is
           (drawing_more _ _ _ _ _ _ c.loop-y-test.true c.loop-y.invariant
-          (row-drawn a.paint a.shading a.t a.width a.left a.right _ e b c.is_flat-flat.ensures w.shades_on-row.ensures w.draw_row-n.ensures) refl)
+          (row_drawn a.paint a.shading a.t a.width a.left a.right _ e b c.is_flat-flat.ensures w.shades_on-row.ensures w.draw_row-n.ensures) refl)
       | else-start-end w ↦
-          drawing-at (λ i. frame_of (w.colors-is i) (w.coverages-is i) (w.marks-is i)) w.n-is
-          (drawing-skip _ _ _ _ _ _ c.loop-y-test.true c.loop-y.invariant (row_none a.paint a.shading a.t a.width a.left a.right _ e b w.if-start-end.false))
+          drawing_at (λ i. frame_of (w.colors-is i) (w.coverages-is i) (w.marks-is i)) w.n-is
+          (drawing_skip _ _ _ _ _ _ c.loop-y-test.true c.loop-y.invariant (row_none a.paint a.shading a.t a.width a.left a.right _ e b w.if-start-end.false))
     ]
 
 shape_of-colors : tie.Need-shape_of-colors invariant-loop decreases-loop

@@ -1,7 +1,7 @@
 -- `draw_indexed` meets its contract: an admitted triangle has its vertices, in range.
 use mathlib.Core.Path.{sym, ◌∙◌}
 use Rattle.raster_pixel.proofs.Near.{admitted_near}
-use Rattle.rasterize.proofs.Corners.{three_absent, three-drawn}
+use Rattle.rasterize.proofs.Corners.{three_absent, three_drawn}
 use borrow.Author.Rules.{rules}
 use Rattle.rasterize.proofs.triangles.draw_indexed.Statement.{statement}
 use Rattle.rasterize.proofs.triangles.draw_indexed.Tie as tie
@@ -33,7 +33,7 @@ shape_of-marks : tie.Need-shape_of-marks
 shape_of-marks c = search rules
 
 returns : tie.Need-returns
-returns c = three-drawn _ _ _ _ _ _ c.triangle_at.ensures c.in-Vertices.is c.draw_triangle.ensures
+returns c = three_drawn _ _ _ _ _ _ c.triangle_at.ensures c.in-Vertices.is c.draw_triangle.ensures
 
 pub draw_indexed_spec : {M : Type 1} → statement M
 draw_indexed_spec =

@@ -9,7 +9,7 @@ use Rattle.raster_pixel.proofs.Inside.{bounded}
 use Rattle.raster_pixel.proofs.Parts.{from_none}
 use Rattle.rasterize.proofs.Kept.{drew_nothing}
 use Rattle.raster_pixel.proofs.Near.{near, tame_as}
-use Rattle.rasterize.proofs.Corners.{culled_none, area_none, triangle-drawn}
+use Rattle.rasterize.proofs.Corners.{culled_none, area_none, triangle_drawn}
 use borrow.Author.Rules.{rules}
 use Rattle.rasterize.proofs.triangles.draw_triangle.Statement.{statement}
 use Rattle.rasterize.proofs.triangles.draw_triangle.Tie as tie
@@ -69,14 +69,14 @@ shape_of-marks-then-rows c = search rules
 returns-then-rows : tie.Need-returns-then-rows
 returns-then-rows c =
     let s = c.before.before.before.before.before.before.before.before.before.before.before.before.before.before.before.before.before.before.before.before.before.before.before.before.before in
-    triangle-drawn _ s.requires.0.0 _ _ s.requires.1.1.wide s.requires.1.1.high _ _ _ c.sort-v.ensures c.corners-corners.ensures c.quarter_area.ensures
+    triangle_drawn _ s.requires.0.0 _ _ s.requires.1.1.wide s.requires.1.1.high _ _ _ c.sort-v.ensures c.corners-corners.ensures c.quarter_area.ensures
     (sym c.culled.ensures ∙ c.if-culled.false) (λ z. c.if-quarter_area-eq0.false (ap (of_z w64) z)) c.setup-t.ensures c.scissor_area-area.ensures c.rows-rows.ensures c.shading_of-shading.ensures
     c.draw_rows.ensures
 
 returns : tie.Need-returns
 returns c =
     let s = c.before.before.before.before.before.before.before.before.before.before.before.before.before.before in
-    triangle-drawn _ s.requires.0.0 _ _ s.requires.1.1.wide s.requires.1.1.high _ _ _ c.sort-v.ensures c.corners-corners.ensures c.quarter_area.ensures
+    triangle_drawn _ s.requires.0.0 _ _ s.requires.1.1.wide s.requires.1.1.high _ _ _ c.sort-v.ensures c.corners-corners.ensures c.quarter_area.ensures
     (sym c.culled.ensures ∙ c.if-culled.false) (λ z. c.if-quarter_area-eq0.false (ap (of_z w64) z)) c.setup-t.ensures c.scissor_area-area.ensures c.rows-rows.ensures refl
     (drew_nothing (from_none _ _ _ c.if-rows.false) s.requires.1.1.fit)
 

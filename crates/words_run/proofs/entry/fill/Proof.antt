@@ -4,7 +4,7 @@ use mathlib.Core.Path.{refl}
 use native.Mathlib.Omega.{arith}
 use lib.ListN.{length}
 use Rattle.words_run.specs.Entries.{entries_of, Wrote, refused_by}
-use Rattle.words_run.proofs.Entries.{wrote_none, wrote-more, wrote_less, room, same_words, same_numbers}
+use Rattle.words_run.proofs.Entries.{wrote_none, wrote_more, wrote_less, room, same_words, same_numbers}
 use Rattle.words_run.proofs.entry.fill.Statement.{statement}
 use Rattle.words_run.proofs.entry.fill.Tie as tie
 
@@ -33,7 +33,7 @@ loop-i-preserved : tie.Need-loop-i-preserved invariant-loop decreases-loop
 loop-i-preserved c =
     let l = c.loop-i.invariant in (
       omega (arith, l.0),
-      wrote-more _ _ l.1 l.0 (omega (arith, c.loop-i-test.true, c.requires.0)) refl c.put_entry.ensures,
+      wrote_more _ _ l.1 l.0 (omega (arith, c.loop-i-test.true, c.requires.0)) refl c.put_entry.ensures,
     )
 
 shape_of-words : tie.Need-shape_of-words invariant-loop decreases-loop

@@ -9,8 +9,8 @@ use Rattle.words_read.specs.Read.{WordAnswer}
 use Rattle.words_run.specs.Run.{one_if}
 use Rattle.words_run.specs.Entries.{entries_of, answer_in}
 use Rattle.words_run.proofs.Entries.{room, same_words, same_numbers}
-use Rattle.words_run.proofs.Columns.{answer-here}
-use Rattle.words_run.proofs.Along.{Along, along_start, along_fits, along-more, along_done}
+use Rattle.words_run.proofs.Columns.{answer_here}
+use Rattle.words_run.proofs.Along.{Along, along_start, along_fits, along_more, along_done}
 use Rattle.words_run.proofs.entry.read_entries.Statement.{statement}
 use Rattle.words_run.proofs.entry.read_entries.Tie as tie
 
@@ -46,7 +46,7 @@ overflow_add-n c =
     let a = c.args in
     let l = c.loop-i in
     let f = frame_of a.colors.now a.coverages.now a.marks.now in
-    let e = answer-here l.invariant.place a.siz a.rgb_dither a.encoding f in
+    let e = answer_here l.invariant.place a.siz a.rgb_dither a.encoding f in
     let r = c.read_entry-read.ensures in
     omega (
       arith,
@@ -71,9 +71,9 @@ loop-i-preserved c =
     let a = c.args in
     let l = c.loop-i in
     let f = frame_of a.colors.now a.coverages.now a.marks.now in
-    let e = answer-here l.invariant.place a.siz a.rgb_dither a.encoding f in
+    let e = answer_here l.invariant.place a.siz a.rgb_dither a.encoding f in
     let r = c.read_entry-read.ensures in
-    along-more _ _ _ _ _ _ c.loop-i-test.true l.invariant c.requires.0.3 e r.0 r.1 c.next_place-place.ensures
+    along_more _ _ _ _ _ _ c.loop-i-test.true l.invariant c.requires.0.3 e r.0 r.1 c.next_place-place.ensures
 
 shape_of-words : tie.Need-shape_of-words invariant-loop decreases-loop
 shape_of-words c = same_words c.requires.1.1 c.loop-i.invariant.wrote.matched

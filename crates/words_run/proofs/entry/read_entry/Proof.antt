@@ -3,7 +3,7 @@ use lib.ListN.{get_or}
 use Rattle.words_run.specs.Entries.{entries_of}
 use Rattle.num_float.proofs.Tests.{both_left}
 use Rattle.frame.proofs.Tests.{was_true, was_false}
-use Rattle.words_run.proofs.Entries.{entry-refused, entry_read}
+use Rattle.words_run.proofs.Entries.{entry_refused, entry_read}
 use Rattle.words_run.proofs.Columns.{marked_by_size}
 use borrow.Author.Rules.{rules}
 use Rattle.words_run.proofs.entry.read_entry.Statement.{statement}
@@ -27,7 +27,7 @@ shape_of-numbers-then-not-is_readable c = search rules
 returns-then-not-is_readable : tie.Need-returns-then-not-is_readable
 returns-then-not-is_readable c =
     let a = c.args in
-    entry-refused _ _ _ _ _ _ (entries_of a.words.now a.numbers.now) a.i (was_false c.is_readable.ensures c.if-not-is_readable.true-raw)
+    entry_refused _ _ _ _ _ _ (entries_of a.words.now a.numbers.now) a.i (was_false c.is_readable.ensures c.if-not-is_readable.true-raw)
     c.put_entry.ensures
 
 read_at-word-requires : tie.Need-read_at-word-requires
