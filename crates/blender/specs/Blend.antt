@@ -9,7 +9,7 @@ use Rattle.num_float.specs.Whole.{f255, byte_of}
 use Rattle.state.specs.declared.RenderMode.{RenderMode}
 use Rattle.state.specs.declared.Rgba.{Rgba}
 use Rattle.combiner.specs.declared.Combiner.{Combiner}
-use Rattle.blender.specs.declared.Bytes.{Bytes}
+use Rattle.state.specs.declared.Rgba8.{Rgba8}
 use Rattle.blender.specs.declared.Coverage.{Coverage}
 use Rattle.blender.specs.declared.Coverage.TheVariants.{Unknown, Known}
 use Rattle.blender.specs.Mux.{mux_of, pick}
@@ -42,7 +42,7 @@ mixed_of stands forced p a m b =
     cond stands p (cond forced sum (div binary32 sum (divisor_of (add binary32 a b))))
 
 -- three channels and the pixel's alpha, as bytes
-unfoldable pub bytes_of : Bool → Bool → Rgba → Float → Rgba → Float → Float → Bytes
+unfoldable pub bytes_of : Bool → Bool → Rgba → Float → Rgba → Float → Float → Rgba8
 bytes_of stands forced p a m b alpha =
     record {
       r = byte_of (mixed_of stands forced p.r a m.r b);
@@ -52,7 +52,7 @@ bytes_of stands forced p a m b alpha =
     }
 
 -- the pixel rgba with n samples over the memory's colour and coverage c
-unfoldable pub blend_of : RenderMode → Combiner → Rgba → Rgba → Float → ℕ → ℕ → Bytes
+unfoldable pub blend_of : RenderMode → Combiner → Rgba → Rgba → Float → ℕ → ℕ → Rgba8
 blend_of mode combiner rgba memory shade n c =
     let x = mux_of mode.blender_mux in
     let a = factor_a x.a rgba.a combiner.fog.a shade in

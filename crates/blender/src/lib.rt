@@ -10,7 +10,7 @@ ghost use Rattle.blender.specs.Blend.{source_of, factor_a, factor_b, divisor_of,
 ghost use Rattle.blender.specs.Joined.{is_known, or_zeros, joined};
 
 use combiner::Combiner;
-use state::{RenderMode, Rgba};
+use state::{RenderMode, Rgba, Rgba8};
 
 pub mod layer; // pixels whose blend is a sum with the memory's colour, or stored as they are where the samples overflow
 
@@ -41,15 +41,6 @@ pub enum Memory {
 pub enum Joined {
     Fallback,
     Stored(u8, u8, u8, u8),
-}
-
-// A colour as it is stored.
-#[derive(Clone, Copy)]
-pub struct Bytes {
-    pub r: u8,
-    pub g: u8,
-    pub b: u8,
-    pub a: u8,
 }
 
 // The blender's four selectors, each from 0 to 3.
@@ -304,10 +295,10 @@ pub fn own_color(mode: RenderMode, combiner: Combiner, rgba: Rgba) -> Rgba
 }
 
 // The three mixed channels and the pixel's alpha, as bytes.
-fn in_bytes(stands: bool, forced: bool, p: Rgba, a: f32, m: Rgba, b: f32, alpha: f32) -> Bytes
+fn in_bytes(stands: bool, forced: bool, p: Rgba, a: f32, m: Rgba, b: f32, alpha: f32) -> Rgba8
     ensures { result ≡ bytes_of stands forced p a m b alpha }
 {
-    Bytes {
+    Rgba8 {
         r: num_float::byte_of(mixed(stands, forced, p.r, a, m.r, b)),
         g: num_float::byte_of(mixed(stands, forced, p.g, a, m.g, b)),
         b: num_float::byte_of(mixed(stands, forced, p.b, a, m.b, b)),
@@ -324,7 +315,7 @@ pub fn blend(
     shade_alpha: f32,
     count: u8,
     coverage: u8,
-) -> Bytes
+) -> Rgba8
     ensures { result ≡ blend_of mode combiner rgba memory shade_alpha count coverage }
 {
     let mux = decode_mux(mode.blender_mux);

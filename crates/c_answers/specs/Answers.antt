@@ -3,7 +3,7 @@ use Rattle.std.specs.Prelude.{ℕ, ◌+◌, ◌*◌, Bool, true, false}
 use Rattle.state.specs.declared.Rgba.{Rgba}
 use Rattle.combiner.specs.declared.Combiner.{Combiner}
 use Rattle.combiner.specs.Means.{Optional}
-use Rattle.blender.specs.declared.Bytes.{Bytes}
+use Rattle.state.specs.declared.Rgba8.{Rgba8}
 use Rattle.words_pack.specs.declared.Bytes2.{Bytes2}
 use Rattle.writeback_pixel.specs.Refusal.{Outcome}
 use Rattle.c_answers.specs.declared.Answer.{Answer}
@@ -23,7 +23,7 @@ bit true = 1
 bit false = 0
 
 -- the first byte lowest
-abbrev pub four_bytes : Bytes → ℕ
+abbrev pub four_bytes : Rgba8 → ℕ
 four_bytes c = c.r + c.g * 0x100 + c.b * 0x10000 + c.a * 0x1000000
 
 abbrev pub two_bytes : Bytes2 → ℕ

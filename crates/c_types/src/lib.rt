@@ -8,8 +8,8 @@ ghost use Rattle.c_types.specs.Convert.{blend_class_of, z_mode_of, alpha_compare
 use blender::Coverage;
 use combiner::Combiner;
 use combiner_inputs::{AlphaIn, ColorIn, CombinerSelectors, CycleSel};
-use state::{AlphaCompare, BlendClass, RenderMode, Rgba, ZMode};
-use words_pack::{FramebufferEncoding, ImageLayout, Literal, Rgba8, Writer};
+use state::{AlphaCompare, BlendClass, RenderMode, Rgba, Rgba8, ZMode};
+use words_pack::{FramebufferEncoding, ImageLayout, Literal, Writer};
 
 // RenderMode, its enums by their numbers in the order of their declarations. A number that an enum lacks stands for its last case: a class above 3 is
 // DualSrc, a z mode above 3 Decal, an alpha_compare above 2 Dither.

@@ -10,7 +10,7 @@ use lib.Ieee.{lt, mul, div, of_int}
 use Rattle.num_float.specs.Whole.{byte_of}
 use Rattle.state.specs.declared.RenderMode.{RenderMode}
 use Rattle.combiner.specs.declared.Combiner.{Combiner}
-use Rattle.blender.specs.declared.Bytes.{Bytes}
+use Rattle.state.specs.declared.Rgba8.{Rgba8}
 use Rattle.blender.specs.declared.Coverage.{Coverage}
 use Rattle.blender.specs.declared.Coverage.TheVariants.{Unknown, Known}
 use Rattle.blender.specs.declared.Source.{Source}
@@ -96,7 +96,7 @@ module _ (mode : RenderMode) (k : Combiner) (s : Source) (x : Pixel)
   unfolding rule_f1 rule_f3
   colors_really y q c e =
       all_colors mode k s y q.all
-      ∙ ap (λ (v : Bytes). record { red = v.r; green = v.g; blue = v.b })
+      ∙ ap (λ (v : Rgba8). record { red = v.r; green = v.g; blue = v.b })
       (blend_same mode k s.color s.shade_alpha s.count (coverage_at x) (color_marked x.mark)
       (memory_of (color_marked y.mark) y) (memory_of (color_marked x.mark) x) y.coverage c said (memory_too y x q.knows)
       (less y.coverage) (less c) (alone_same mode s.color.a s.count y.coverage c e))
@@ -132,7 +132,7 @@ pub full_certain :
 unfolding rule_f3
 full_certain mode k s x forced eight there y q =
     all_colors mode k s y q.all
-    ∙ ap (λ (v : Bytes). record { red = v.r; green = v.g; blue = v.b })
+    ∙ ap (λ (v : Rgba8). record { red = v.r; green = v.g; blue = v.b })
     (alone_blend_same mode k s.color s.shade_alpha s.count (color_marked x.mark)
     (memory_of (color_marked y.mark) y) (memory_of (color_marked x.mark) x) y.coverage 7 there (memory_too y x q.knows)
     (full_alone mode s.color.a s.count y.coverage forced eight) (full_alone mode s.color.a s.count 7 forced eight))

@@ -11,7 +11,7 @@ use Rattle.combiner.specs.declared.Combiner.{Combiner}
 use Rattle.blender.specs.declared.Source.{Source}
 use Rattle.blender.specs.declared.Coverage.TheVariants.{Known}
 use Rattle.blender.specs.Mux.{mux_of}
-use Rattle.blender.specs.declared.Bytes.{Bytes}
+use Rattle.state.specs.declared.Rgba8.{Rgba8}
 use Rattle.blender.specs.declared.Joined.{Joined}
 use Rattle.blender.specs.declared.Joined.TheVariants.{Fallback, Stored}
 use Rattle.blender.specs.declared.Memory.{Memory}
@@ -136,7 +136,7 @@ module _ (mode : RenderMode) (k : Combiner) (s : Source) (x : Pixel) where
   was_known h e = λ i. record { known = sym h i && not (sym e i); colors = cond (sym h i && not (sym e i)) told (rule_f4 x) }
 
   module _ (sure : rule_f2 mode s (coverage_at x) ≡ false) (m : Memory) (known : is_known m ≡ color_marked x.mark) (color : or_zeros m ≡ memory_of (color_marked x.mark) x) where
-    abbrev bytes : Bytes
+    abbrev bytes : Rgba8
     bytes = blend_of mode k s.color (or_zeros m) s.shade_alpha s.count (or_zero (coverage_at x))
 
     asked : stored_in (joined mode k s (coverage_at x) m) ≡ known_after mode s x

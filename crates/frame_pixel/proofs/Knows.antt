@@ -9,7 +9,7 @@ use borrow.Author.Tests.{not-true}
 use Rattle.state.specs.declared.RenderMode.{RenderMode}
 use Rattle.state.specs.declared.Rgba.{Rgba}
 use Rattle.combiner.specs.declared.Combiner.{Combiner}
-use Rattle.blender.specs.declared.Bytes.{Bytes}
+use Rattle.state.specs.declared.Rgba8.{Rgba8}
 use Rattle.blender.specs.declared.Coverage.{Coverage}
 use Rattle.blender.specs.declared.Coverage.TheVariants.{Unknown, Known}
 use Rattle.blender.specs.declared.Source.{Source}
@@ -105,7 +105,7 @@ module _ (mode : RenderMode) (s : Source) (c : Coverage) (a : Bool) (known : (ru
     colors_too : (k : Combiner) {m m' : Rgba} → (a ≡ true → m' ≡ m) → rule_f3 mode k s d m' ≡ rule_f3 mode k s c m
     unfolding rule_f1 rule_f3
     colors_too k {m} {m'} e =
-        ap (λ (v : Bytes). record { red = v.r; green = v.g; blue = v.b })
+        ap (λ (v : Rgba8). record { red = v.r; green = v.g; blue = v.b })
         (blend_same mode k s.color s.shade_alpha s.count c a m' m (or_zero d) (or_zero c) said e (less_zero l) (less_zero (less_self c))
         (sure_alone mode s s.count sure (less_zero l) (less_zero (less_self c))))
 

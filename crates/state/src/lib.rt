@@ -12,7 +12,16 @@ pub struct Rgba {
     pub a: f32,
 }
 
-#[derive(Clone, Copy)]
+// A colour in bytes.
+#[derive(Clone, Copy, Debug, PartialEq, Eq)]
+pub struct Rgba8 {
+    pub r: u8,
+    pub g: u8,
+    pub b: u8,
+    pub a: u8,
+}
+
+#[derive(Clone, Copy, Debug, PartialEq, Eq)]
 pub enum BlendClass {
     Replace,
     BlendColor,
@@ -20,7 +29,7 @@ pub enum BlendClass {
     DualSrc,
 }
 
-#[derive(Clone, Copy)]
+#[derive(Clone, Copy, Debug, PartialEq, Eq)]
 pub enum ZMode {
     Opa,
     Inter,
@@ -28,7 +37,7 @@ pub enum ZMode {
     Decal,
 }
 
-#[derive(Clone, Copy)]
+#[derive(Clone, Copy, Debug, PartialEq, Eq)]
 pub enum AlphaCompare {
     None,
     Threshold,

@@ -6,7 +6,7 @@ use Rattle.words_pack.specs.declared.FramebufferEncoding.{FramebufferEncoding}
 use Rattle.words_pack.specs.declared.ImageLayout.{ImageLayout}
 use Rattle.words_pack.specs.declared.Literal.{Literal}
 use Rattle.words_pack.specs.declared.Literal.TheVariants.{Absent}
-use Rattle.words_pack.specs.declared.Rgba8.{Rgba8}
+use Rattle.state.specs.declared.Rgba8.{Rgba8}
 use Rattle.words_pack.specs.declared.Writer.{Writer}
 
 -- a definition by a test, where the test's value is known

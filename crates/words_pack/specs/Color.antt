@@ -1,7 +1,7 @@
 -- To be believed. A colour as a 16-bit word. Source: the N64 Programming Manual, 16-bit RGBA pixels, and N64brew's RDP pages on the memory
 -- interface and dithering. Definitions only.
 use Rattle.std.specs.Prelude.{ℕ, ◌+◌, ◌*◌, ◌/◌, ◌%◌, min, cond, nat_lt}
-use Rattle.words_pack.specs.declared.Rgba8.{Rgba8}
+use Rattle.state.specs.declared.Rgba8.{Rgba8}
 
 -- A channel of eight bits in five: one more where the three bits that are cut off are above the dither threshold, and 31 at most
 unfoldable pub pack_channel_of : ℕ → ℕ → ℕ

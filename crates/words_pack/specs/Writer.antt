@@ -13,7 +13,7 @@ use Rattle.words_pack.specs.declared.FramebufferEncoding.TheVariants.{Native, Bi
 use Rattle.words_pack.specs.declared.ImageLayout.{ImageLayout}
 use Rattle.words_pack.specs.declared.Literal.{Literal}
 use Rattle.words_pack.specs.declared.Literal.TheVariants.{Absent, Word}
-use Rattle.words_pack.specs.declared.Rgba8.{Rgba8}
+use Rattle.state.specs.declared.Rgba8.{Rgba8}
 use Rattle.words_pack.specs.declared.Writer.{Writer}
 
 -- 16-bit RGBA, and 8-bit colour index, intensity and alpha, or intensity

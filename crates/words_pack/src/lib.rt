@@ -9,6 +9,8 @@ ghost use Rattle.words_pack.specs.Dither.{place_of, threshold_of};
 ghost use Rattle.words_pack.specs.Depth.{deepest, range, Within, word_in, depth_word, depth_of, pack_depth_of};
 ghost use Rattle.words_pack.specs.Writer.{supported_of, pixel_bytes_of, bytes_of, literal_of, bits_of, color_of, encode_of};
 
+use state::Rgba8;
+
 // An image's format and size of a pixel, as Set Color Image numbers them, and its width in pixels.
 #[derive(Clone, Copy)]
 pub struct ImageLayout {
@@ -36,14 +38,6 @@ pub enum FramebufferEncoding {
 pub enum Literal {
     Absent,
     Word(u32),
-}
-
-#[derive(Clone, Copy)]
-pub struct Rgba8 {
-    pub r: u8,
-    pub g: u8,
-    pub b: u8,
-    pub a: u8,
 }
 
 // Two bytes of memory, the lower address first.

@@ -11,7 +11,7 @@ use Rattle.num_float.proofs.Tests.{never, both_left}
 use Rattle.words_pack.specs.declared.Bytes2.{Bytes2}
 use Rattle.words_pack.specs.declared.FramebufferEncoding.{FramebufferEncoding}
 use Rattle.words_pack.specs.declared.Literal.TheVariants.{Absent}
-use Rattle.words_pack.specs.declared.Rgba8.{Rgba8}
+use Rattle.state.specs.declared.Rgba8.{Rgba8}
 use Rattle.words_pack.specs.declared.Writer.{Writer}
 use Rattle.words_pack.specs.Writer.{color_supported, supported_of, encode_of}
 use Rattle.words_read.specs.declared.Word.TheVariants.{Bytes, Refused}

@@ -6,7 +6,7 @@ use Rattle.blender.specs.Blend.{or_zero}
 use Rattle.words_pack.specs.declared.Bytes2.{Bytes2}
 use Rattle.words_pack.specs.declared.FramebufferEncoding.{FramebufferEncoding}
 use Rattle.words_pack.specs.declared.Literal.TheVariants.{Absent}
-use Rattle.words_pack.specs.declared.Rgba8.{Rgba8}
+use Rattle.state.specs.declared.Rgba8.{Rgba8}
 use Rattle.words_pack.specs.declared.Writer.{Writer}
 use Rattle.words_pack.specs.Writer.{supported_of, encode_of}
 use Rattle.words_read.specs.declared.Word.{Word}

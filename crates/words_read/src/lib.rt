@@ -7,7 +7,8 @@ ghost use Rattle.frame.specs.Frame.{pixel_at, frame_of};
 ghost use Rattle.frame.specs.Loads.{ColorKnown, Loadable};
 ghost use Rattle.words_read.specs.Read.{readable, writer_by, word_by, read_args, word_means, read_answer, Numbered};
 
-use words_pack::{Bytes2, FramebufferEncoding, ImageLayout, Literal, Rgba8, Writer};
+use state::Rgba8;
+use words_pack::{Bytes2, FramebufferEncoding, ImageLayout, Literal, Writer};
 
 #[derive(Clone, Copy)]
 pub enum Word {

@@ -14,7 +14,7 @@ use Rattle.blender.specs.Blend.{or_zero}
 use Rattle.num_float.proofs.Tests.{never, both_right}
 use Rattle.words_pack.specs.declared.FramebufferEncoding.{FramebufferEncoding}
 use Rattle.words_pack.specs.declared.Literal.TheVariants.{Absent}
-use Rattle.words_pack.specs.declared.Rgba8.{Rgba8}
+use Rattle.state.specs.declared.Rgba8.{Rgba8}
 use Rattle.words_pack.specs.declared.Bytes2.{Bytes2}
 use Rattle.words_pack.specs.Writer.{color_supported, supported_of, pixel_bytes_of, color_of, encode_of}
 use Rattle.words_pack.proofs.Encoded.{encode_by, absent_by, color_by}

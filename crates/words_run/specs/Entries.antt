@@ -3,7 +3,7 @@ use Rattle.std.specs.Prelude.{ℕ, ◌+◌, ◌*◌, ◌/◌, ◌%◌, ◌≤◌
 use Rattle.frame_pixel.specs.declared.Pixel.{Pixel}
 use Rattle.words_pack.specs.declared.Bytes2.{Bytes2}
 use Rattle.words_pack.specs.declared.FramebufferEncoding.{FramebufferEncoding}
-use Rattle.words_pack.specs.declared.Rgba8.{Rgba8}
+use Rattle.state.specs.declared.Rgba8.{Rgba8}
 use Rattle.words_pack.specs.Color.{pack_color_of}
 use Rattle.words_pack.specs.Dither.{threshold_of}
 use Rattle.words_pack.specs.Writer as writer

@@ -7,7 +7,8 @@ ghost use Rattle.frame.specs.Loads.{ColorKnown, CoverageKnown, ColorThere, Loada
 ghost use Rattle.words_run.specs.Run.{one_if, count_of, answers_from};
 ghost use Rattle.words_run.specs.Entries.{entries_of, Matched, PutIn, WroteIn, answer_of, refused_by, color_at, halfword, byte_of, word_at, answer_at, answer_in, At};
 
-use words_pack::{Bytes2, FramebufferEncoding, Rgba8};
+use state::Rgba8;
+use words_pack::{Bytes2, FramebufferEncoding};
 
 // The column and row of a pixel.
 #[derive(Clone, Copy)]

@@ -2,7 +2,7 @@
 #![tactic(auto)]
 
 // A draw's state.
-pub use state::{AlphaCompare, BlendClass, CombinerUniform, RenderMode, Rgba, ZMode};
+pub use state::{AlphaCompare, BlendClass, CombinerUniform, RenderMode, Rgba, Rgba8, ZMode};
 
 // Selectors.
 pub use combiner_inputs::{
@@ -15,7 +15,7 @@ pub use combiner::{Color, Combiner, Made, Strict};
 
 // The single-pixel calls.
 pub use blender::Coverage;
-pub use words_pack::{FramebufferEncoding, ImageLayout, Literal, Rgba8, Writer, pack_depth};
+pub use words_pack::{FramebufferEncoding, ImageLayout, Literal, Writer, pack_depth};
 pub use writeback_pixel::{
     Answer, Blended, Encoded, Packed, PixelBytes, Stored, blend, color_known, destination, encode,
     pack_color, pixel_bytes, supported,

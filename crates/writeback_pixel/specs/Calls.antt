@@ -5,7 +5,7 @@ use Rattle.num_bits.specs.Ones.{ones_of}
 use Rattle.state.specs.declared.RenderMode.{RenderMode}
 use Rattle.state.specs.declared.Rgba.{Rgba}
 use Rattle.combiner.specs.declared.Combiner.{Combiner}
-use Rattle.blender.specs.declared.Bytes.{Bytes}
+use Rattle.state.specs.declared.Rgba8.{Rgba8}
 use Rattle.blender.specs.declared.Coverage.{Coverage}
 use Rattle.blender.specs.Coverage.{destination_of}
 use Rattle.blender.specs.Known.{color_known}
@@ -13,7 +13,6 @@ use Rattle.blender.specs.Blend.{blend_of}
 use Rattle.words_pack.specs.declared.Bytes2.{Bytes2}
 use Rattle.words_pack.specs.declared.FramebufferEncoding.{FramebufferEncoding}
 use Rattle.words_pack.specs.declared.Literal.{Literal}
-use Rattle.words_pack.specs.declared.Rgba8.{Rgba8}
 use Rattle.words_pack.specs.declared.Writer.{Writer}
 use Rattle.words_pack.specs.Color.{pack_color_of}
 use Rattle.words_pack.specs.Writer.{supported_of, pixel_bytes_of, encode_of}
@@ -50,14 +49,14 @@ unfoldable pub color_known_call : RenderMode → Float → ℕ → Coverage → 
 color_known_call mode alpha m coverage memory = checked (mask_ok m && known_ok coverage) (color_known mode alpha (ones_of m) coverage memory) false
 
 -- ---- blend
-abbrev pub no_bytes : Bytes
+abbrev pub no_bytes : Rgba8
 no_bytes = record { r = 0; g = 0; b = 0; a = 0 }
 
-abbrev pub blend_means : Blended → Outcome Bytes
-blend_means (blended.Bytes r g b a) = accepted (record { r = r; g = g; b = b; a = a })
+abbrev pub blend_means : Blended → Outcome Rgba8
+blend_means (blended.Rgba8 r g b a) = accepted (record { r = r; g = g; b = b; a = a })
 blend_means blended.Refused = refused no_bytes
 
-unfoldable pub blend_call : RenderMode → Combiner → Rgba → Rgba → Float → ℕ → ℕ → Outcome Bytes
+unfoldable pub blend_call : RenderMode → Combiner → Rgba → Rgba → Float → ℕ → ℕ → Outcome Rgba8
 blend_call mode combiner rgba memory shade m c =
     checked (mask_ok m && coverage_ok c) (blend_of mode combiner rgba memory shade (ones_of m) c) no_bytes
 
@@ -74,7 +73,7 @@ unfoldable pub supported_call : Writer → Outcome Bool
 supported_call w = checked (writer_ok w) (supported_of w) false
 
 abbrev pub pixel_bytes_means : PixelBytes → Outcome ℕ
-pixel_bytes_means (size.Bytes n) = accepted n
+pixel_bytes_means (size.Rgba8 n) = accepted n
 pixel_bytes_means size.Refused = refused 0
 
 unfoldable pub pixel_bytes_call : Writer → Outcome ℕ
@@ -85,7 +84,7 @@ abbrev pub no_word : Bytes2
 no_word = (0, 0)
 
 abbrev pub encode_means : Encoded → Outcome Bytes2
-encode_means (encoded.Bytes a b) = accepted (a, b)
+encode_means (encoded.Rgba8 a b) = accepted (a, b)
 encode_means encoded.Refused = refused no_word
 
 unfoldable pub encode_call : Writer → Rgba8 → ℕ → ℕ → Literal → ℕ → FramebufferEncoding → Outcome Bytes2

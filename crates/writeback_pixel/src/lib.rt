@@ -7,8 +7,8 @@ ghost use Rattle.writeback_pixel.specs.Calls.{destination_means, destination_cal
 
 use blender::Coverage;
 use combiner::Combiner;
-use state::{RenderMode, Rgba};
-use words_pack::{FramebufferEncoding, Literal, Rgba8, Writer};
+use state::{RenderMode, Rgba, Rgba8};
+use words_pack::{FramebufferEncoding, Literal, Writer};
 
 #[derive(Clone, Copy)]
 pub enum Stored {

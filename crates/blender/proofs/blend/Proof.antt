@@ -7,7 +7,7 @@ use borrow.Author.Rules.{rules}
 use Rattle.state.specs.declared.RenderMode.{RenderMode}
 use Rattle.state.specs.declared.Rgba.{Rgba}
 use Rattle.combiner.specs.declared.Combiner.{Combiner}
-use Rattle.blender.specs.declared.Bytes.{Bytes}
+use Rattle.state.specs.declared.Rgba8.{Rgba8}
 use Rattle.blender.specs.declared.Mux.{Mux}
 use Rattle.blender.specs.declared.Coverage.TheVariants.{Known}
 use Rattle.blender.specs.Mux.{mux_of}
@@ -39,7 +39,7 @@ in_bytes-requires c κs = search rules
 
 module _ (mode : RenderMode) (combiner : Combiner) (rgba memory : Rgba) (shade : Float) (n c : ℕ) where
   assembled :
-      {x : Mux} {p m : Rgba} {a b : Float} {stands : Bool} {out : Bytes}
+      {x : Mux} {p m : Rgba} {a b : Float} {stands : Bool} {out : Rgba8}
       → x ≡ mux_of mode.blender_mux
       → p ≡ source_of x.p combiner rgba memory → m ≡ source_of x.m combiner rgba memory
       → a ≡ factor_a x.a rgba.a combiner.fog.a shade → b ≡ factor_b x.b a c

@@ -6,7 +6,7 @@ use lib.Ieee.{Float}
 use borrow.Author.Rules.{rules}
 use Rattle.num_float.specs.Whole.{byte_of}
 use Rattle.state.specs.declared.Rgba.{Rgba}
-use Rattle.blender.specs.declared.Bytes.{Bytes}
+use Rattle.state.specs.declared.Rgba8.{Rgba8}
 use Rattle.blender.specs.Blend.{mixed_of, bytes_of}
 use Rattle.blender.proofs.in_bytes.Statement.{statement}
 use Rattle.blender.proofs.in_bytes.Tie as tie
@@ -37,7 +37,7 @@ byte e h = h ∙ ap byte_of e
 
 module _ (stands forced : Bool) (p : Rgba) (a : Float) (m : Rgba) (b alpha : Float) where
   assembled :
-      {x y z : Float} {out : Bytes}
+      {x y z : Float} {out : Rgba8}
       → x ≡ mixed_of stands forced p.r a m.r b → out.r ≡ byte_of x
       → y ≡ mixed_of stands forced p.g a m.g b → out.g ≡ byte_of y
       → z ≡ mixed_of stands forced p.b a m.b b → out.b ≡ byte_of z

@@ -1,0 +1,2 @@
+-- The definitions that the contracts of `refused` cite.
+pub mod Numbers
