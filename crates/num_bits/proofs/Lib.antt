@@ -1,2 +1,3 @@
 -- The laws that callers cite.
 pub mod Masks
+pub mod Fields
