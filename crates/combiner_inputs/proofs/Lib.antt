@@ -1,4 +1,3 @@
 -- What several proofs of `combiner_inputs` share.
 pub mod Tables
 pub mod Words
-pub mod Meant

@@ -9,7 +9,7 @@ ghost use Rattle.combiner_inputs.specs.Inputs.{color_number, alpha_number};
 use num_bits::bits;
 
 // What a colour slot can read.
-#[derive(Clone, Copy)]
+#[derive(Clone, Copy, Debug, PartialEq, Eq)]
 pub enum ColorIn {
     Combined,
     Texel0,
@@ -35,7 +35,7 @@ pub enum ColorIn {
 }
 
 // What an alpha slot can read.
-#[derive(Clone, Copy)]
+#[derive(Clone, Copy, Debug, PartialEq, Eq)]
 pub enum AlphaIn {
     Combined,
     Texel0,
@@ -50,7 +50,7 @@ pub enum AlphaIn {
 }
 
 // One cycle's selectors: each channel is (a - b) * c + d.
-#[derive(Clone, Copy)]
+#[derive(Clone, Copy, Debug, PartialEq, Eq)]
 pub struct CycleSel {
     pub ca: ColorIn,
     pub cb: ColorIn,
@@ -63,7 +63,7 @@ pub struct CycleSel {
 }
 
 // Both cycles' selectors, and the two words that they were taken from.
-#[derive(Clone, Copy)]
+#[derive(Clone, Copy, Debug, PartialEq, Eq)]
 pub struct CombinerSelectors {
     pub raw_l: u32,
     pub raw_h: u32,
@@ -72,6 +72,7 @@ pub struct CombinerSelectors {
 }
 
 // The colour slot a, of four bits.
+#[tactic(auto, unfolding(crate::specs::Combine::color_a, crate::specs::Combine::select))]
 pub fn color_a(idx: u32) -> ColorIn
     ensures answer { color_number result ≡ color_number (select color_a ColorIn.Zero 4 idx) }
     ensures value { result ≡ select color_a ColorIn.Zero 4 idx }
@@ -90,6 +91,7 @@ pub fn color_a(idx: u32) -> ColorIn
 }
 
 // The colour slot b, of four bits.
+#[tactic(auto, unfolding(crate::specs::Combine::color_b, crate::specs::Combine::select))]
 pub fn color_b(idx: u32) -> ColorIn
     ensures answer { color_number result ≡ color_number (select color_b ColorIn.Zero 4 idx) }
     ensures value { result ≡ select color_b ColorIn.Zero 4 idx }
@@ -108,6 +110,7 @@ pub fn color_b(idx: u32) -> ColorIn
 }
 
 // The colour slot c, of five bits.
+#[tactic(auto, unfolding(crate::specs::Combine::color_c, crate::specs::Combine::select))]
 pub fn color_c(idx: u32) -> ColorIn
     ensures answer { color_number result ≡ color_number (select color_c ColorIn.Zero 5 idx) }
     ensures value { result ≡ select color_c ColorIn.Zero 5 idx }
@@ -134,6 +137,7 @@ pub fn color_c(idx: u32) -> ColorIn
 }
 
 // The colour slot d, of three bits.
+#[tactic(auto, unfolding(crate::specs::Combine::color_d, crate::specs::Combine::select))]
 pub fn color_d(idx: u32) -> ColorIn
     ensures answer { color_number result ≡ color_number (select color_d ColorIn.Zero 3 idx) }
     ensures value { result ≡ select color_d ColorIn.Zero 3 idx }
@@ -151,6 +155,7 @@ pub fn color_d(idx: u32) -> ColorIn
 }
 
 // The alpha slots a, b and d, of three bits.
+#[tactic(auto, unfolding(crate::specs::Combine::alpha_abd, crate::specs::Combine::select))]
 pub fn alpha_abd(idx: u32) -> AlphaIn
     ensures answer { alpha_number result ≡ alpha_number (select alpha_abd AlphaIn.Zero 3 idx) }
     ensures value { result ≡ select alpha_abd AlphaIn.Zero 3 idx }
@@ -168,6 +173,7 @@ pub fn alpha_abd(idx: u32) -> AlphaIn
 }
 
 // The alpha slot c, of three bits.
+#[tactic(auto, unfolding(crate::specs::Combine::alpha_c, crate::specs::Combine::select))]
 pub fn alpha_c(idx: u32) -> AlphaIn
     ensures answer { alpha_number result ≡ alpha_number (select alpha_c AlphaIn.Zero 3 idx) }
     ensures value { result ≡ select alpha_c AlphaIn.Zero 3 idx }

@@ -1,0 +1,15 @@
+-- The default arm of `combiner_inputs::color_c` is past the table's end.
+use mathlib.Core.Path.{ap}
+use Rattle.combiner_inputs.specs.declared.ColorIn.TheVariants as color
+use Rattle.combiner_inputs.specs.Combine.{color_c}
+use Rattle.combiner_inputs.specs.Inputs.{color_number}
+use Rattle.combiner_inputs.proofs.Tables.{rest}
+use Rattle.combiner_inputs.proofs.color_c.Goals as goal
+
+pub returns-in_default-clause-answer : goal.returns-in_default-clause-answer
+unfolding color_c
+returns-in_default-clause-answer c = ap color_number (rest color_c color.Zero 5 c.args.idx c.in_default.in_default-own.rest)
+
+pub returns-in_default-clause-value : goal.returns-in_default-clause-value
+unfolding color_c
+returns-in_default-clause-value c = rest color_c color.Zero 5 c.args.idx c.in_default.in_default-own.rest
