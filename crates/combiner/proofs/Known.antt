@@ -1,11 +1,11 @@
 -- Whether a combiner gives a colour does not turn on the shade, so a combiner that `new` makes gives one for every shade. Selectors decide
--- whether an input is refused, and a colour is refused where one of its sixteen inputs is.
+-- whether an input is there, and a colour is none where one of its sixteen inputs is.
 use mathlib.Core.Path.{◌≡◌, refl, sym, ap, ◌∙◌}
 use Prim.Native.Nat.{ℕ}
-use native.Mathlib.Omega.{arith}
 use mathlib.Core.Bool.{Bool, true, false, cond, ◌&&◌, ◌||◌, true≢false}
 use lib.Dec.{eqb}
 use lib.Ieee.{Float}
+use Rattle.std.specs.Prelude.{Option, Some, None, is_none}
 use Rattle.num_float.specs.Color.{channel_of}
 use Rattle.state.specs.declared.CombinerUniform.{CombinerUniform}
 use Rattle.state.specs.declared.RenderMode.{RenderMode}
@@ -14,25 +14,12 @@ use Rattle.combiner_inputs.specs.declared.ColorIn.{ColorIn}
 use Rattle.combiner_inputs.specs.declared.ColorIn.TheVariants as cin
 use Rattle.combiner_inputs.specs.declared.AlphaIn.{AlphaIn}
 use Rattle.combiner_inputs.specs.declared.AlphaIn.TheVariants as ain
-use Rattle.combiner.specs.declared.Color.{Color}
-use Rattle.combiner.specs.declared.Color.TheVariants as color
 use Rattle.combiner.specs.declared.Combiner.{Combiner}
-use Rattle.combiner.specs.declared.Input.{Input}
-use Rattle.combiner.specs.declared.Input.TheVariants.{Value, Refused}
-use Rattle.combiner.specs.declared.Made.TheVariants.{With, Without}
 use Rattle.combiner.specs.Combine.{color_input, alpha_input, with_all, mixed, joined, channel_at, alpha_at, color_of, full_shade}
 use Rattle.combiner.specs.New.{plain, combiner_of, if_colored, new_of}
 
-abbrev pub missing : Input → Bool
-missing (Value x) = false
-missing Refused = true
-
-abbrev pub refused : Color → Bool
-refused (color.Value r g b a) = false
-refused color.Refused = true
-
 -- ---- the inputs
-pub color_input_alike : (k : Combiner) (x : ColorIn) (s t : Rgba) (i j : ℕ) → missing (color_input k x s i) ≡ missing (color_input k x t j)
+pub color_input_alike : (k : Combiner) (x : ColorIn) (s t : Rgba) (i j : ℕ) → is_none (color_input k x s i) ≡ is_none (color_input k x t j)
 unfolding color_input
 color_input_alike k cin.Combined s t i j = refl
 color_input_alike k cin.Texel0 s t i j = refl
@@ -56,7 +43,7 @@ color_input_alike k cin.PrimLodFrac s t i j = refl
 color_input_alike k cin.K5 s t i j = refl
 color_input_alike k cin.Noise s t i j = refl
 
-pub alpha_input_alike : (k : Combiner) (x : AlphaIn) (s t : Rgba) → missing (alpha_input k x s) ≡ missing (alpha_input k x t)
+pub alpha_input_alike : (k : Combiner) (x : AlphaIn) (s t : Rgba) → is_none (alpha_input k x s) ≡ is_none (alpha_input k x t)
 unfolding alpha_input
 alpha_input_alike k ain.Combined s t = refl
 alpha_input_alike k ain.Texel0 s t = refl
@@ -69,84 +56,76 @@ alpha_input_alike k ain.Texel1 s t = refl
 alpha_input_alike k ain.LodFraction s t = refl
 alpha_input_alike k ain.PrimLodFrac s t = refl
 
--- ---- four inputs: something is made of them exactly if none is refused. `no` tells an answer that is none
+-- ---- four inputs: something is made of them exactly if each is there. `no` tells an answer that is none
 module _ {A : Type 0} (none : A) (make : Float → Float → Float → Float → A) (no : A → Bool) (is : no none ≡ true) (isnt : (a b c d : Float) → no (make a b c d) ≡ false) where
-  with_all_lem : (a b c d : Input) → no (with_all none make a b c d) ≡ (missing a || missing b || missing c || missing d)
-  with_all_lem Refused b c d = is
-  with_all_lem (Value x) Refused c d = is
-  with_all_lem (Value x) (Value y) Refused d = is
-  with_all_lem (Value x) (Value y) (Value z) Refused = is
-  with_all_lem (Value x) (Value y) (Value z) (Value w) = isnt x y z w
+  with_all_lem : (a b c d : Option Float) → no (with_all none make a b c d) ≡ (is_none a || is_none b || is_none c || is_none d)
+  with_all_lem None b c d = is
+  with_all_lem (Some x) None c d = is
+  with_all_lem (Some x) (Some y) None d = is
+  with_all_lem (Some x) (Some y) (Some z) None = is
+  with_all_lem (Some x) (Some y) (Some z) (Some w) = isnt x y z w
 
-pub mixed_missing : (a b c d : Input) → missing (mixed a b c d) ≡ (missing a || missing b || missing c || missing d)
+pub mixed_missing : (a b c d : Option Float) → is_none (mixed a b c d) ≡ (is_none a || is_none b || is_none c || is_none d)
 unfolding mixed
-mixed_missing a b c d = with_all_lem Refused (λ a b c d. Value (channel_of a b c d)) missing refl (λ a b c d. refl) a b c d
+mixed_missing a b c d = with_all_lem None (λ a b c d. Some (channel_of a b c d)) is_none refl (λ a b c d. refl) a b c d
 
-pub joined_refused : (a b c d : Input) → refused (joined a b c d) ≡ (missing a || missing b || missing c || missing d)
+pub joined_missing : (a b c d : Option Float) → is_none (joined a b c d) ≡ (is_none a || is_none b || is_none c || is_none d)
 unfolding joined
-joined_refused a b c d = with_all_lem color.Refused color.Value refused refl (λ a b c d. refl) a b c d
+joined_missing a b c d =
+    with_all_lem None (λ r g b a. Some (record { r = r; g = g; b = b; a = a })) is_none refl (λ a b c d. refl) a b c d
 
-pub channel_alike : (k : Combiner) (s t : Rgba) (i j : ℕ) → missing (channel_at k s i) ≡ missing (channel_at k t j)
+pub channel_alike : (k : Combiner) (s t : Rgba) (i j : ℕ) → is_none (channel_at k s i) ≡ is_none (channel_at k t j)
 unfolding channel_at
 channel_alike k s t i j =
-    let e : (x : ColorIn) → missing (color_input k x s i) ≡ missing (color_input k x t j) = λ x. color_input_alike k x s t i j in
+    let e : (x : ColorIn) → is_none (color_input k x s i) ≡ is_none (color_input k x t j) = λ x. color_input_alike k x s t i j in
     let l = k.selectors in
     mixed_missing _ _ _ _ ∙ (λ n. e l.ca n || e l.cb n || e l.cc n || e l.cd n) ∙ sym (mixed_missing _ _ _ _)
 
-pub alpha_alike : (k : Combiner) (s t : Rgba) → missing (alpha_at k s) ≡ missing (alpha_at k t)
+pub alpha_alike : (k : Combiner) (s t : Rgba) → is_none (alpha_at k s) ≡ is_none (alpha_at k t)
 unfolding alpha_at
 alpha_alike k s t =
-    let e : (x : AlphaIn) → missing (alpha_input k x s) ≡ missing (alpha_input k x t) = λ x. alpha_input_alike k x s t in
+    let e : (x : AlphaIn) → is_none (alpha_input k x s) ≡ is_none (alpha_input k x t) = λ x. alpha_input_alike k x s t in
     let l = k.selectors in
     mixed_missing _ _ _ _ ∙ (λ n. e l.aa n || e l.ab n || e l.ac n || e l.ad n) ∙ sym (mixed_missing _ _ _ _)
 
 -- ---- the colour
-pub color_alike : (k : Combiner) (s t : Rgba) → refused (color_of k s) ≡ refused (color_of k t)
+pub color_alike : (k : Combiner) (s t : Rgba) → is_none (color_of k s) ≡ is_none (color_of k t)
 unfolding color_of
 color_alike k s t =
-    joined_refused _ _ _ _ ∙ (λ n. channel_alike k s t 0 0 n || channel_alike k s t 1 1 n || channel_alike k s t 2 2 n || alpha_alike k s t n) ∙ sym (joined_refused _ _ _ _)
+    joined_missing _ _ _ _ ∙ (λ n. channel_alike k s t 0 0 n || channel_alike k s t 1 1 n || channel_alike k s t 2 2 n || alpha_alike k s t n) ∙ sym (joined_missing _ _ _ _)
 
-is_refused : (c : Color) → refused c ≡ true → c ≡ color.Refused
-is_refused (color.Value r g b a) h = absurd (true≢false (sym h))
-is_refused color.Refused h = refl
+none : (c : Option Rgba) → is_none c ≡ true → c ≡ None
+none (Some x) h = absurd (true≢false (sym h))
+none None h = refl
 
--- a colour that is refused for one shade is refused for each
-pub refused_alike : (k : Combiner) (s t : Rgba) → color_of k s ≡ color.Refused → color_of k t ≡ color.Refused
-refused_alike k s t e = is_refused (color_of k t) (color_alike k t s ∙ ap refused e)
+-- a colour that is none for one shade is none for each
+pub refused_alike : (k : Combiner) (s t : Rgba) → color_of k s ≡ None → color_of k t ≡ None
+refused_alike k s t e = none (color_of k t) (color_alike k t s ∙ ap is_none e)
 
--- the four channels of a colour that is there
-pub record Valued (c : Color) : Type 0 where
-  pub r : Float
-  pub g : Float
-  pub b : Float
-  pub a : Float
-  pub is : c ≡ color.Value r g b a
+-- a colour that is there
+pub record Valued (c : Option Rgba) : Type 0 where
+  pub color : Rgba
+  pub is : c ≡ Some color
 
-pub valued : (c : Color) → refused c ≡ false → Valued c
-valued (color.Value r g b a) h = record { r = r; g = g; b = b; a = a; is = refl }
-valued color.Refused h = absurd (true≢false h)
+pub valued : (c : Option Rgba) → is_none c ≡ false → Valued c
+valued (Some x) h = record { color = x; is = refl }
+valued None h = absurd (true≢false h)
 
 -- ---- what `new` makes
-none_made : {A : Type 0} {k : Combiner} → Without ≡ With k → A
-none_made h =
-    let z : ◌≡◌ {A = ℕ} 0 1 = cc in
-    let no : ⊥ = omega arith in
-    absurd no
+made : (b : Bool) (j : Combiner) (c : Option Rgba) {k : Combiner} → cond b (if_colored j c) None ≡ Some k → (j ≡ k) × (is_none c ≡ false)
+made false j c h = cc
+made true j None h = cc
+made true j (Some x) h = (cc, refl)
 
-made : (b : Bool) (j : Combiner) (c : Color) {k : Combiner} → cond b (if_colored j c) Without ≡ With k → (j ≡ k) × (refused c ≡ false)
-made false j c h = none_made h
-made true j color.Refused h = none_made h
-made true j (color.Value r g b a) h = (cc, refl)
-
-made_of : (u : CombinerUniform) (m : RenderMode) {k : Combiner} → new_of u m ≡ With k → (combiner_of u ≡ k) × (refused (color_of (combiner_of u) full_shade) ≡ false)
+made_of : (u : CombinerUniform) (m : RenderMode) {k : Combiner} → new_of u m ≡ Some k → (combiner_of u ≡ k) × (is_none (color_of (combiner_of u) full_shade) ≡ false)
 unfolding new_of
 made_of u m h = made (eqb u.tex_enable 0 && plain m) (combiner_of u) (color_of (combiner_of u) full_shade) h
 
 -- the uniform's
-pub new_combiner : (u : CombinerUniform) (m : RenderMode) {k : Combiner} → new_of u m ≡ With k → combiner_of u ≡ k
+pub new_combiner : (u : CombinerUniform) (m : RenderMode) {k : Combiner} → new_of u m ≡ Some k → combiner_of u ≡ k
 new_combiner u m h = (made_of u m h).0
 
 -- A combiner that `new` makes gives a colour for every shade.
-pub new_colors : (u : CombinerUniform) (m : RenderMode) {k : Combiner} → new_of u m ≡ With k → (s : Rgba) → Valued (color_of k s)
+pub new_colors : (u : CombinerUniform) (m : RenderMode) {k : Combiner} → new_of u m ≡ Some k → (s : Rgba) → Valued (color_of k s)
 new_colors u m {k} h s =
-    valued (color_of k s) (color_alike k s full_shade ∙ ap (λ (j : Combiner). refused (color_of j full_shade)) (sym (new_combiner u m h)) ∙ (made_of u m h).1)
+    valued (color_of k s) (color_alike k s full_shade ∙ ap (λ (j : Combiner). is_none (color_of j full_shade)) (sym (new_combiner u m h)) ∙ (made_of u m h).1)

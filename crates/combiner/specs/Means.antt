@@ -1,19 +1,13 @@
--- To be believed. The combiner's answers as numbers and values: for each answer that is an enum, those of every case (`..Means`), and for each call its outcome on every input
--- (`..Call`). Definitions only. Source: docs/RULES.md, the numbers; the Rust's Option is a flag and a value.
-use Rattle.std.specs.Prelude.{ℕ, Bool, true, false, cond, ◌&&◌, eqb}
+-- To be believed. The combiner's answers as numbers and values: for each answer, those of every case (`.._means`), and for each call its outcome on every input
+-- (`.._call`). Definitions only. Source: docs/RULES.md, the numbers; an Option is a flag and a value.
+use Rattle.std.specs.Prelude.{ℕ, Bool, true, false, cond, ◌&&◌, eqb, Option, Some, None}
 use Rattle.num_float.specs.Color.{f0}
 use Rattle.state.specs.declared.CombinerUniform.{CombinerUniform}
 use Rattle.state.specs.declared.RenderMode.{RenderMode}
 use Rattle.state.specs.declared.Rgba.{Rgba}
 use Rattle.combiner_inputs.specs.declared.ColorIn.TheVariants as cin
 use Rattle.combiner_inputs.specs.declared.AlphaIn.TheVariants as ain
-use Rattle.combiner.specs.declared.Color.{Color}
-use Rattle.combiner.specs.declared.Color.TheVariants as color
 use Rattle.combiner.specs.declared.Combiner.{Combiner}
-use Rattle.combiner.specs.declared.Made.{Made}
-use Rattle.combiner.specs.declared.Made.TheVariants.{With, Without}
-use Rattle.combiner.specs.declared.Strict.{Strict}
-use Rattle.combiner.specs.declared.Strict.TheVariants.{Word, Nothing}
 use Rattle.combiner.specs.Combine.{with_all, channel_at, alpha_at, full_shade}
 use Rattle.combiner.specs.New.{plain, combiner_of}
 use Rattle.combiner.specs.Strict.{flat, is_strict, strict_word}
@@ -55,19 +49,19 @@ no_combiner =
       lod = f0;
     }
 
--- ---- Combiner::color: each channel of four inputs, if none of them is refused. It turns nothing away: none has number 0 too
-abbrev pub color_means : Color → Optional Rgba
-color_means (color.Value r g b a) = present (record { r = r; g = g; b = b; a = a })
-color_means color.Refused = absent 0 no_color
+-- ---- Combiner::color: each channel of four inputs, if each of them is there. It turns nothing away: none has number 0 too
+abbrev pub color_means : Option Rgba → Optional Rgba
+color_means (Some c) = present c
+color_means None = absent 0 no_color
 
 unfoldable pub color_call : Combiner → Rgba → Optional Rgba
 color_call k shade =
     with_all (absent 0 no_color) (λ r g b a. present (record { r = r; g = g; b = b; a = a })) (channel_at k shade 0) (channel_at k shade 1) (channel_at k shade 2) (alpha_at k shade)
 
 -- ---- Combiner::strict_color: the word of a constant colour that has one. It turns nothing away
-abbrev pub strict_means : Strict → Optional ℕ
-strict_means (Word word) = present word
-strict_means Nothing = absent 0 0
+abbrev pub strict_means : Option ℕ → Optional ℕ
+strict_means (Some word) = present word
+strict_means None = absent 0 0
 
 unfoldable pub strict_call : Combiner → Optional ℕ
 strict_call k =
@@ -75,9 +69,9 @@ strict_call k =
     cond (flat k.selectors && (c.some && is_strict c.value)) (present (strict_word c.value)) (absent 0 0)
 
 -- ---- Combiner::new: for a draw without textures, in a plain mode, whose colour there is. A draw without a combiner is turned away with number 6
-abbrev pub made_means : Made → Optional Combiner
-made_means (With k) = present k
-made_means Without = absent 6 no_combiner
+abbrev pub made_means : Option Combiner → Optional Combiner
+made_means (Some k) = present k
+made_means None = absent 6 no_combiner
 
 unfoldable pub new_call : CombinerUniform → RenderMode → Optional Combiner
 new_call u m =

@@ -1,6 +1,6 @@
 -- To be believed. Which draws have a combiner, and which one. Definitions only.
 -- Source: Combiner::new of writeback.rs. The fields are those of Set Other Modes and Set Combine Mode (N64 Programming Manual, RDP chapters).
-use Rattle.std.specs.Prelude.{Bool, true, false, cond, not, ◌&&◌, ◌||◌, eqb, get_or}
+use Rattle.std.specs.Prelude.{Bool, true, false, cond, not, ◌&&◌, ◌||◌, eqb, get_or, Option, Some, None}
 use Rattle.std.specs.Float.{nan}
 use Rattle.state.specs.declared.AlphaCompare.{AlphaCompare}
 use Rattle.state.specs.declared.AlphaCompare.TheVariants as compare
@@ -8,12 +8,9 @@ use Rattle.state.specs.declared.BlendClass.{BlendClass}
 use Rattle.state.specs.declared.BlendClass.TheVariants as blend
 use Rattle.state.specs.declared.CombinerUniform.{CombinerUniform}
 use Rattle.state.specs.declared.RenderMode.{RenderMode}
+use Rattle.state.specs.declared.Rgba.{Rgba}
 use Rattle.combiner_inputs.specs.Combine.{cycle1}
-use Rattle.combiner.specs.declared.Color.{Color}
-use Rattle.combiner.specs.declared.Color.TheVariants as color
 use Rattle.combiner.specs.declared.Combiner.{Combiner}
-use Rattle.combiner.specs.declared.Made.{Made}
-use Rattle.combiner.specs.declared.Made.TheVariants.{With, Without}
 use Rattle.combiner.specs.Combine.{color_of, full_shade}
 
 -- whether pixels are dropped by their alpha
@@ -50,10 +47,10 @@ combiner_of u =
     }
 
 -- a combiner that gives a colour
-abbrev pub if_colored : Combiner → Color → Made
-if_colored k (color.Value r g b a) = With k
-if_colored k color.Refused = Without
+abbrev pub if_colored : Combiner → Option Rgba → Option Combiner
+if_colored k (Some c) = Some k
+if_colored k None = None
 
 -- a draw without textures, in a plain mode, whose selectors are all known
-unfoldable pub new_of : CombinerUniform → RenderMode → Made
-new_of u m = cond (eqb u.tex_enable 0 && plain m) (if_colored (combiner_of u) (color_of (combiner_of u) full_shade)) Without
+unfoldable pub new_of : CombinerUniform → RenderMode → Option Combiner
+new_of u m = cond (eqb u.tex_enable 0 && plain m) (if_colored (combiner_of u) (color_of (combiner_of u) full_shade)) None

@@ -1,7 +1,7 @@
 -- To be believed. The colour word of a combiner that gives one constant colour, each channel of it empty or full. Definitions only.
 -- Source: Combiner::strict_color of writeback.rs; the word has five bits each of red, green and blue from the top (N64 Programming Manual, 16-bit
 -- RGBA frame buffer).
-use Rattle.std.specs.Prelude.{ℕ, ◌+◌, Bool, false, cond, ◌&&◌, ◌||◌, List, [], ◌∷◌, eqb, Float}
+use Rattle.std.specs.Prelude.{ℕ, ◌+◌, Bool, false, cond, ◌&&◌, ◌||◌, List, [], ◌∷◌, eqb, Float, Option, Some, None}
 use Rattle.std.specs.Float.Ieee.{eq}
 use Rattle.num_float.specs.Color.{f0, f1}
 use Rattle.state.specs.declared.Rgba.{Rgba}
@@ -11,11 +11,7 @@ use Rattle.combiner_inputs.specs.declared.ColorIn.TheVariants as cin
 use Rattle.combiner_inputs.specs.declared.AlphaIn.{AlphaIn}
 use Rattle.combiner_inputs.specs.declared.AlphaIn.TheVariants as ain
 use Rattle.combiner_inputs.specs.Inputs.{color_number, alpha_number}
-use Rattle.combiner.specs.declared.Color.{Color}
-use Rattle.combiner.specs.declared.Color.TheVariants as color
 use Rattle.combiner.specs.declared.Combiner.{Combiner}
-use Rattle.combiner.specs.declared.Strict.{Strict}
-use Rattle.combiner.specs.declared.Strict.TheVariants.{Word, Nothing}
 use Rattle.combiner.specs.Combine.{color_of, full_shade}
 
 -- whether x is one of a list, by a numbering
@@ -58,12 +54,12 @@ is_strict c = eq c.a f1 && pure c.r && pure c.g && pure c.b
 abbrev pub strict_word : Rgba → ℕ
 strict_word c = filled c.r 0xf800 + filled c.g 0x07c0 + filled c.b 0x003e
 
-unfoldable pub word_of : Float → Float → Float → Float → Strict
-word_of r g b a = let c : Rgba = record { r = r; g = g; b = b; a = a } in cond (is_strict c) (Word (strict_word c)) Nothing
+unfoldable pub word_of : Rgba → Option ℕ
+word_of c = cond (is_strict c) (Some (strict_word c)) None
 
-abbrev pub word_of_color : Color → Strict
-word_of_color (color.Value r g b a) = word_of r g b a
-word_of_color color.Refused = Nothing
+abbrev pub word_of_color : Option Rgba → Option ℕ
+word_of_color (Some c) = word_of c
+word_of_color None = None
 
-unfoldable pub strict_of : Combiner → Strict
-strict_of k = cond (flat k.selectors) (word_of_color (color_of k full_shade)) Nothing
+unfoldable pub strict_of : Combiner → Option ℕ
+strict_of k = cond (flat k.selectors) (word_of_color (color_of k full_shade)) None

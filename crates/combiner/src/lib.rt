@@ -1,10 +1,10 @@
 // The colour combiner of writeback.rs: a draw's constants and selectors, and the colour that they give for a shade.
 #![tactic(auto)]
 
-ghost use Rattle.std.specs.Prelude.{◌≡◌};
+ghost use Rattle.std.specs.Prelude.{◌≡◌, ◌≤◌, ◌&&◌};
 ghost use Rattle.combiner.specs.Combine.{element, color_input, alpha_input, mixed, full_shade, channel_at, alpha_at, color_of};
 ghost use Rattle.combiner.specs.Strict.{zero_color, zero_alpha, constant_color, constant_alpha, flat, pure, filled, word_of, strict_of};
-ghost use Rattle.combiner.specs.New.{compares, blends_color, plain, combiner_of, new_of};
+ghost use Rattle.combiner.specs.New.{plain, combiner_of, new_of};
 ghost use Rattle.combiner.specs.Means.{made_means, new_call, color_means, color_call, strict_means, strict_call};
 
 use combiner_inputs::{AlphaIn, ColorIn, CycleSel};
@@ -20,67 +20,25 @@ pub struct Combiner {
     pub lod: f32,
 }
 
-// One number, or none: the Rust's Option<f32>.
-#[derive(Clone, Copy)]
-pub enum Input {
-    Value(f32),
-    Refused,
-}
-
-// Red, green, blue and alpha, or none: the Rust's Option<[f32; 4]>.
-#[derive(Clone, Copy)]
-pub enum Color {
-    Value(f32, f32, f32, f32),
-    Refused,
-}
-
-// A colour word, or none: the Rust's Option<u16>.
-#[derive(Clone, Copy)]
-pub enum Strict {
-    Word(u16),
-    Nothing,
-}
-
-// A combiner, or none: the Rust's Option<Combiner>.
-#[derive(Clone, Copy)]
-pub enum Made {
-    With(Combiner),
-    Without,
-}
-
-// Element i of the Rust's [f32; 4].
+// Red, green or blue by 0, 1 and 2, and alpha by any other number.
+#[tactic(auto, unfolding(crate::specs::Combine::element))]
 fn pick_channel(c: Rgba, i: u8) -> f32
     ensures { result ≡ element c i }
 {
-    if i == 0 {
-        return c.r;
+    match i {
+        0 => c.r,
+        1 => c.g,
+        2 => c.b,
+        _ => c.a,
     }
-    if i == 1 {
-        return c.g;
-    }
-    if i == 2 {
-        return c.b;
-    }
-    c.a
 }
 
-// One channel of four inputs, if none of them is refused.
-pub fn mix(a: Input, b: Input, c: Input, d: Input) -> Input
+// One channel of four inputs, if each of them is there.
+#[tactic(auto, unfolding(crate::specs::Combine::mixed))]
+pub fn mix(a: Option<f32>, b: Option<f32>, c: Option<f32>, d: Option<f32>) -> Option<f32>
     ensures { result ≡ mixed a b c d }
 {
-    let Input::Value(x) = a else {
-        return Input::Refused;
-    };
-    let Input::Value(y) = b else {
-        return Input::Refused;
-    };
-    let Input::Value(z) = c else {
-        return Input::Refused;
-    };
-    let Input::Value(w) = d else {
-        return Input::Refused;
-    };
-    Input::Value(num_float::channel(x, y, z, w))
+    Some(num_float::channel(a?, b?, c?, d?))
 }
 
 // The shade of a rectangle, with which a combiner is also tried.
@@ -95,263 +53,201 @@ pub fn full_shade() -> Rgba
     }
 }
 
-// An enum cannot be compared by `==`, so the tests of strict_color are matches.
-fn color_is_zero(input: ColorIn) -> bool
-    ensures { result ≡ zero_color input }
+// Whether red, green and blue are one constant, (0 - 0) * 0 + d.
+#[tactic(auto, unfolding(crate::specs::Strict::zero_color, crate::specs::Strict::constant_color, combiner_inputs::specs::Inputs::color_number))]
+fn color_is_flat(s: CycleSel) -> bool
+    ensures { result ≡ (zero_color s.ca && zero_color s.cb && zero_color s.cc && constant_color s.cd) }
 {
-    match input {
-        ColorIn::Zero => true,
-        _ => false,
-    }
+    s.ca == ColorIn::Zero
+        && s.cb == ColorIn::Zero
+        && s.cc == ColorIn::Zero
+        && matches!(
+            s.cd,
+            ColorIn::Primitive | ColorIn::Environment | ColorIn::One | ColorIn::Zero
+        )
 }
 
-fn alpha_is_zero(input: AlphaIn) -> bool
-    ensures { result ≡ zero_alpha input }
+// The same of alpha.
+#[tactic(auto, unfolding(crate::specs::Strict::zero_alpha, crate::specs::Strict::constant_alpha, combiner_inputs::specs::Inputs::alpha_number))]
+fn alpha_is_flat(s: CycleSel) -> bool
+    ensures { result ≡ (zero_alpha s.aa && zero_alpha s.ab && zero_alpha s.ac && constant_alpha s.ad) }
 {
-    match input {
-        AlphaIn::Zero => true,
-        _ => false,
-    }
+    s.aa == AlphaIn::Zero
+        && s.ab == AlphaIn::Zero
+        && s.ac == AlphaIn::Zero
+        && matches!(
+            s.ad,
+            AlphaIn::Primitive | AlphaIn::Environment | AlphaIn::One
+        )
 }
 
-fn color_is_constant(input: ColorIn) -> bool
-    ensures { result ≡ constant_color input }
-{
-    match input {
-        ColorIn::Primitive | ColorIn::Environment | ColorIn::One | ColorIn::Zero => true,
-        _ => false,
-    }
-}
-
-fn alpha_is_constant(input: AlphaIn) -> bool
-    ensures { result ≡ constant_alpha input }
-{
-    match input {
-        AlphaIn::Primitive | AlphaIn::Environment | AlphaIn::One => true,
-        _ => false,
-    }
-}
-
-// Whether the selectors name one constant: (0 - 0) * 0 + d.
+#[tactic(auto, unfolding(crate::specs::Strict::flat))]
 fn is_flat(s: CycleSel) -> bool
     ensures { result ≡ flat s }
 {
-    let ca = s.ca;
-    let cb = s.cb;
-    let cc = s.cc;
-    let cd = s.cd;
-    let aa = s.aa;
-    let ab = s.ab;
-    let ac = s.ac;
-    let ad = s.ad;
-    let color = color_is_zero(ca) & color_is_zero(cb) & color_is_zero(cc) & color_is_constant(cd);
-    let alpha = alpha_is_zero(aa) & alpha_is_zero(ab) & alpha_is_zero(ac) & alpha_is_constant(ad);
-    color & alpha
+    color_is_flat(s) && alpha_is_flat(s)
 }
 
 // Empty or full.
+#[tactic(auto, unfolding(crate::specs::Strict::pure))]
 fn is_pure(v: f32) -> bool
     ensures { result ≡ pure v }
 {
-    (v == 0.0) | (v == 1.0)
+    v == 0.0 || v == 1.0
 }
 
 // A channel's bits of the word.
+#[tactic(auto, unfolding(crate::specs::Strict::filled))]
 fn fill(v: f32, bits: u16) -> u16
-    ensures { result ≡ filled v bits }
+    ensures value { result ≡ filled v bits }
+    ensures at_most { result ≤ bits }
 {
     if v == 1.0 { bits } else { 0 }
 }
 
 // The word of a colour, if it is opaque and each channel is empty or full.
-fn strict_word(r: f32, g: f32, b: f32, a: f32) -> Strict
-    ensures { result ≡ word_of r g b a }
+#[tactic(auto, unfolding(crate::specs::Strict::word_of))]
+fn strict_word(c: Rgba) -> Option<u16>
+    ensures { result ≡ word_of c }
 {
-    let opaque = a == 1.0;
-    let red = is_pure(r);
-    let green = is_pure(g);
-    let blue = is_pure(b);
-    if opaque & red & green & blue {
-        let high = fill(r, 0xf800);
-        let middle = fill(g, 0x07c0);
-        let low = fill(b, 0x003e);
-        let sum = high + middle;
-        let word = sum + low;
-        return Strict::Word(word);
-    }
-    Strict::Nothing
-}
-
-fn compares_alpha(a: AlphaCompare) -> bool
-    ensures { result ≡ compares a }
-{
-    match a {
-        AlphaCompare::None => false,
-        AlphaCompare::Threshold => true,
-        AlphaCompare::Dither => true,
-    }
-}
-
-fn blends_color(b: BlendClass) -> bool
-    ensures { result ≡ blends_color b }
-{
-    match b {
-        BlendClass::Replace => false,
-        BlendClass::BlendColor => true,
-        BlendClass::AlphaOver => false,
-        BlendClass::DualSrc => false,
+    let opaque = c.a == 1.0;
+    if opaque && is_pure(c.r) && is_pure(c.g) && is_pure(c.b) {
+        Some(fill(c.r, 0xf800) + fill(c.g, 0x07c0) + fill(c.b, 0x003e))
+    } else {
+        None
     }
 }
 
 // Whether a mode asks for no more than a combiner and a blender: one cycle, no depth, no alpha test, coverage apart from alpha.
+#[tactic(auto, unfolding(crate::specs::New::plain, crate::specs::New::compares, crate::specs::New::blends_color))]
 fn is_plain(mode: RenderMode) -> bool
     ensures { result ≡ plain mode }
 {
-    let one_cycle = mode.cycle_type == 0;
-    let alpha_compare = mode.alpha_compare;
-    let blend_class = mode.blend_class;
-    let depth = mode.z_test | mode.z_write;
-    let alpha = mode.cvg_x_alpha | compares_alpha(alpha_compare) | mode.alpha_cvg_select;
-    let class = blends_color(blend_class) | mode.color_on_coverage;
-    one_cycle & !(depth | alpha | class)
+    let depth = mode.z_test || mode.z_write;
+    let alpha = mode.cvg_x_alpha
+        || mode.alpha_compare != AlphaCompare::None
+        || mode.alpha_cvg_select;
+    let class = mode.blend_class == BlendClass::BlendColor || mode.color_on_coverage;
+    mode.cycle_type == 0 && !(depth || alpha || class)
 }
 
 // The constants of a uniform and the selectors of its second cycle, which one-cycle mode reads.
+#[tactic(auto, unfolding(crate::specs::New::combiner_of))]
 fn read_uniform(u: CombinerUniform) -> Combiner
     ensures { result ≡ combiner_of u }
 {
     let decoded = combiner_inputs::decode_combine(u.combine_l, u.combine_h);
-    let selectors = decoded.cyc1;
-    let prim = u.prim;
-    let env = u.env;
-    let blend = u.blend_color;
-    let fog = u.fog_color;
-    let params = u.lod_params;
-    let lod = params[2];
     Combiner {
-        selectors,
-        prim,
-        env,
-        blend,
-        fog,
-        lod,
+        selectors: decoded.cyc1,
+        prim: u.prim,
+        env: u.env,
+        blend: u.blend_color,
+        fog: u.fog_color,
+        lod: u.lod_params[2],
     }
 }
 
 // What a colour selector names, in a channel.
-pub fn color_input(combiner: Combiner, input: ColorIn, shade: Rgba, channel: u8) -> Input
+#[tactic(auto, unfolding(crate::specs::Combine::color_input))]
+pub fn color_input(combiner: Combiner, input: ColorIn, shade: Rgba, channel: u8) -> Option<f32>
     ensures { result ≡ color_input combiner input shade channel }
 {
     match input {
-        ColorIn::Zero | ColorIn::Combined | ColorIn::CombinedAlpha => Input::Value(0.0),
-        ColorIn::One | ColorIn::LodFraction => Input::Value(1.0),
-        ColorIn::Primitive => Input::Value(pick_channel(combiner.prim, channel)),
-        ColorIn::Environment => Input::Value(pick_channel(combiner.env, channel)),
-        ColorIn::Shade => Input::Value(pick_channel(shade, channel)),
-        ColorIn::PrimitiveAlpha => Input::Value(combiner.prim.a),
-        ColorIn::EnvAlpha => Input::Value(combiner.env.a),
-        ColorIn::ShadeAlpha => Input::Value(shade.a),
-        ColorIn::PrimLodFrac => Input::Value(combiner.lod),
-        _ => Input::Refused,
+        ColorIn::Zero | ColorIn::Combined | ColorIn::CombinedAlpha => Some(0.0),
+        ColorIn::One | ColorIn::LodFraction => Some(1.0),
+        ColorIn::Primitive => Some(pick_channel(combiner.prim, channel)),
+        ColorIn::Environment => Some(pick_channel(combiner.env, channel)),
+        ColorIn::Shade => Some(pick_channel(shade, channel)),
+        ColorIn::PrimitiveAlpha => Some(combiner.prim.a),
+        ColorIn::EnvAlpha => Some(combiner.env.a),
+        ColorIn::ShadeAlpha => Some(shade.a),
+        ColorIn::PrimLodFrac => Some(combiner.lod),
+        _ => None,
     }
 }
 
 // What an alpha selector names.
-pub fn alpha_input(combiner: Combiner, input: AlphaIn, shade: Rgba) -> Input
+#[tactic(auto, unfolding(crate::specs::Combine::alpha_input))]
+pub fn alpha_input(combiner: Combiner, input: AlphaIn, shade: Rgba) -> Option<f32>
     ensures { result ≡ alpha_input combiner input shade }
 {
     match input {
-        AlphaIn::Zero | AlphaIn::Combined => Input::Value(0.0),
-        AlphaIn::One | AlphaIn::LodFraction => Input::Value(1.0),
-        AlphaIn::Primitive => Input::Value(combiner.prim.a),
-        AlphaIn::Environment => Input::Value(combiner.env.a),
-        AlphaIn::Shade => Input::Value(shade.a),
-        AlphaIn::PrimLodFrac => Input::Value(combiner.lod),
-        _ => Input::Refused,
+        AlphaIn::Zero | AlphaIn::Combined => Some(0.0),
+        AlphaIn::One | AlphaIn::LodFraction => Some(1.0),
+        AlphaIn::Primitive => Some(combiner.prim.a),
+        AlphaIn::Environment => Some(combiner.env.a),
+        AlphaIn::Shade => Some(shade.a),
+        AlphaIn::PrimLodFrac => Some(combiner.lod),
+        _ => None,
     }
 }
 
 impl Combiner {
     // The combiner of a draw, if it gives a colour. Whether it does turns on no shade, so one shade tells.
-    pub fn new(uniform: CombinerUniform, mode: RenderMode) -> Made
+    #[tactic(auto, unfolding(crate::specs::New::new_of, crate::specs::Means::new_call))]
+    pub fn new(uniform: CombinerUniform, mode: RenderMode) -> Option<Combiner>
         ensures answer { made_means result ≡ new_call uniform mode }
         ensures value { result ≡ new_of uniform mode }
     {
-        if uniform.tex_enable != 0 {
-            return Made::Without;
+        if uniform.tex_enable != 0 || !is_plain(mode) {
+            return None;
         }
-        if !is_plain(mode) {
-            return Made::Without;
-        }
-        let result = read_uniform(uniform);
-        let Color::Value(_, _, _, _) = result.color(full_shade()) else {
-            return Made::Without;
-        };
-        Made::With(result)
+        let combiner = read_uniform(uniform);
+        combiner.color(full_shade())?;
+        Some(combiner)
     }
 
     // Red, green or blue.
-    fn rgb(self, shade: Rgba, channel: u8) -> Input
+    #[tactic(auto, unfolding(crate::specs::Combine::channel_at))]
+    fn rgb(self, shade: Rgba, channel: u8) -> Option<f32>
         ensures { result ≡ channel_at self shade channel }
     {
         let s = self.selectors;
-        let ca = s.ca;
-        let a = color_input(self, ca, shade, channel);
-        let cb = s.cb;
-        let b = color_input(self, cb, shade, channel);
-        let cc = s.cc;
-        let c = color_input(self, cc, shade, channel);
-        let cd = s.cd;
-        let d = color_input(self, cd, shade, channel);
-        mix(a, b, c, d)
+        mix(
+            color_input(self, s.ca, shade, channel),
+            color_input(self, s.cb, shade, channel),
+            color_input(self, s.cc, shade, channel),
+            color_input(self, s.cd, shade, channel),
+        )
     }
 
-    fn alpha(self, shade: Rgba) -> Input
+    #[tactic(auto, unfolding(crate::specs::Combine::alpha_at))]
+    fn alpha(self, shade: Rgba) -> Option<f32>
         ensures { result ≡ alpha_at self shade }
     {
         let s = self.selectors;
-        let aa = s.aa;
-        let a = alpha_input(self, aa, shade);
-        let ab = s.ab;
-        let b = alpha_input(self, ab, shade);
-        let ac = s.ac;
-        let c = alpha_input(self, ac, shade);
-        let ad = s.ad;
-        let d = alpha_input(self, ad, shade);
-        mix(a, b, c, d)
+        mix(
+            alpha_input(self, s.aa, shade),
+            alpha_input(self, s.ab, shade),
+            alpha_input(self, s.ac, shade),
+            alpha_input(self, s.ad, shade),
+        )
     }
 
     // The colour for a shade.
-    pub fn color(self, shade: Rgba) -> Color
+    #[tactic(auto, unfolding(crate::specs::Combine::color_of, crate::specs::Combine::joined, crate::specs::Means::color_call))]
+    pub fn color(self, shade: Rgba) -> Option<Rgba>
         ensures answer { color_means result ≡ color_call self shade }
         ensures value { result ≡ color_of self shade }
     {
-        let Input::Value(r) = self.rgb(shade, 0) else {
-            return Color::Refused;
-        };
-        let Input::Value(g) = self.rgb(shade, 1) else {
-            return Color::Refused;
-        };
-        let Input::Value(b) = self.rgb(shade, 2) else {
-            return Color::Refused;
-        };
-        let Input::Value(a) = self.alpha(shade) else {
-            return Color::Refused;
-        };
-        Color::Value(r, g, b, a)
+        Some(Rgba {
+            r: self.rgb(shade, 0)?,
+            g: self.rgb(shade, 1)?,
+            b: self.rgb(shade, 2)?,
+            a: self.alpha(shade)?,
+        })
     }
 
     // The word of a combiner that gives one constant colour, each channel of it empty or full.
-    pub fn strict_color(self) -> Strict
+    #[tactic(auto, unfolding(crate::specs::Strict::strict_of, crate::specs::Strict::word_of, crate::specs::Means::strict_call))]
+    pub fn strict_color(self) -> Option<u16>
         ensures answer { strict_means result ≡ strict_call self }
         ensures value { result ≡ strict_of self }
     {
         if is_flat(self.selectors) {
-            let Color::Value(r, g, b, a) = self.color(full_shade()) else {
-                return Strict::Nothing;
-            };
-            return strict_word(r, g, b, a);
+            strict_word(self.color(full_shade())?)
+        } else {
+            None
         }
-        Strict::Nothing
     }
 }
