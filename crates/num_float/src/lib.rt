@@ -2,7 +2,8 @@
 // Every public function is total on every bit pattern. Tests are strict (<, >), so that a NaN falls into the last arm.
 #![tactic(auto)]
 
-ghost use Rattle.std.specs.Prelude.{◌≡◌, cond, false, ◌*◌, ◌≤◌};
+ghost use Rattle.std.specs.Prelude.{◌≡◌, cond, false, ◌*◌, ◌/◌, ◌%◌, ◌^◌, ◌≤◌, to_bits};
+ghost use Rattle.std.specs.Float.{NotNan, binary64};
 ghost use Rattle.std.specs.Float.Ieee.{lt, neg};
 ghost use Rattle.std.specs.Float.Ieee.Exact.{HasValue};
 ghost use Rattle.std.specs.Float.Ieee.Positive.{num, den};
@@ -17,13 +18,7 @@ const INDEX_LIMIT: f32 = 131072.0;
 pub fn clamp01(x: f32) -> f32
     ensures { result ≡ clamped x }
 {
-    if x < 0.0 {
-        0.0
-    } else if x > 1.0 {
-        1.0
-    } else {
-        x
-    }
+    x.clamp(0.0, 1.0)
 }
 
 // The combiner's equation.
@@ -33,55 +28,53 @@ pub fn channel(a: f32, b: f32, c: f32, d: f32) -> f32
     clamp01((a - b) * c + d)
 }
 
-// Below the one infinity and above the other.
+// No NaN and no infinity.
+#[tactic(auto, using(crate::proofs::Values::finite_same))]
 pub fn is_finite(x: f32) -> bool
     ensures { result ≡ is_finite x }
 {
-    x < 1.0 / 0.0 && -1.0 / 0.0 < x
+    x.is_finite()
 }
 
-// Whether a is at or before b in total_cmp's order. Two values that are equal differ at most in a zero's sign, which the
-// quotients show: 1.0 / -0.0 is the lower infinity.
+// Whether a is at or before b in total_cmp's order. Two values that are equal differ at most in a zero's sign.
+#[tactic(auto, using(crate::proofs::Values::equal_left, crate::proofs::Values::equal_right, crate::proofs::Values::sign_same))]
 pub fn le_total(a: f32, b: f32) -> bool
     ensures { result ≡ total_le a b }
 {
-    if a < b {
-        return true;
-    }
-    if a != b {
-        return false;
-    }
-    if a != 0.0 {
-        return true;
-    }
-    1.0 / a <= 1.0 / b
+    a < b || a == b && (a.is_sign_negative() || b.is_sign_positive())
 }
 
-// v where it is above 0, and 0 for the rest, a NaN too.
+// v where it is above 0, and 0 for the rest, a NaN too. Not `max`: that may answer either of two zeros.
 fn above_zero(v: f32) -> f32
     ensures { result ≡ cond (lt f0 v) v f0 }
 {
     if v > 0.0 { v } else { 0.0 }
 }
 
-// v where it is below top, and top for the rest.
+// v where it is below top, and top for the rest. Not `min`: that may answer either of two that compare equal.
 fn up_to(v: f32, top: f32) -> f32
     ensures { result ≡ cond (lt v top) v top }
 {
     if v < top { v } else { top }
 }
 
-// The whole number nearest to y, halves up, where y is an f32 or four times one. The last digit of an f64 from 2^26 up to 2^27
-// is 2^-26, so that its bits from the 26th up show its whole part. The sum is exact from 1/8 up; below that its rounding stays
-// below 2^26 + 1.
+// The bits of w from the 26th up. From 2^26 up to 2^27 they are its whole part less 2^26, since the last digit there is 2^-26.
+fn whole_bits(w: f64) -> u64
+    requires { NotNan w }
+    ensures { result ≡ to_bits binary64 w / 2 ^ 26 % 2 ^ 26 }
+{
+    (w.to_bits() >> 26) & 0x3ff_ffff
+}
+
+// The whole number nearest to y, halves up, where y is an f32 or four times one. The sum is exact from 1/8 up; below that its
+// rounding stays below 2^26 + 1.
 fn nearest(y: f64) -> u64
     requires value { HasValue y false (num y) (den y) }
     requires bounded { num y ≤ 131072 * den y }
     requires coarse { Coarse (num y) (den y) }
     ensures { result ≡ near (num y) (den y) }
 {
-    let w = y + 67108864.5;
-    (f64::to_bits(w) >> 26) & 0x3ff_ffff
+    whole_bits(y + 67108864.5)
 }
 
 // Rust's (v.clamp(0.0, 1.0) * 255.0).round() as u8. A NaN and -0.0, which clamp keeps, are cut off to 0.0 here; their byte is 0 either way.
@@ -91,7 +84,7 @@ pub fn byte_of(v: f32) -> u8
     nearest((up_to(above_zero(v), 1.0) * 255.0) as f64) as u8
 }
 
-// Rust's x.abs(), but for the sign of a zero.
+// Rust's x.abs(), but for the sign of a zero. Not `abs`: that tests for a zero too, at each coordinate of each triangle.
 fn magnitude(x: f32) -> f32
     ensures { result ≡ cond (lt x f0) (neg x) x }
 {
@@ -102,8 +95,8 @@ fn magnitude(x: f32) -> f32
 pub fn quarter(x: f32) -> i64
     ensures { result ≡ quarter_of x }
 {
-    let n = nearest((up_to(above_zero(magnitude(x)), 16384.0) as f64) * 4.0) as i64;
-    if x < 0.0 { 0 - n } else { n }
+    let n = nearest(up_to(above_zero(magnitude(x)), 16384.0) as f64 * 4.0) as i64;
+    if x < 0.0 { -n } else { n }
 }
 
 // The whole part of y, as `nearest` finds it.
@@ -112,8 +105,7 @@ fn whole_part(y: f32) -> u64
     requires bounded { num y ≤ 131072 * den y }
     ensures { result ≡ floor (num y) (den y) }
 {
-    let w = (y as f64) + 67108864.0;
-    (f64::to_bits(w) >> 26) & 0x3ff_ffff
+    whole_bits(y as f64 + 67108864.0)
 }
 
 // Rust's x.floor().max(0.0) as usize.
