@@ -1,16 +1,12 @@
 -- Inner vocabulary. A combiner resolved once for a draw: each of its inputs as a constant or a part of the shade, and the colour that this gives. Definitions only.
 -- Source: Combiner::color of writeback.rs, of which this is a faster form; that the colours are the same is the law `new_mixes` (proofs/Mixes).
-use Rattle.std.specs.Prelude.{Bool, true, false, [], ◌∷◌, Float}
+use Rattle.std.specs.Prelude.{Bool, true, false, [], ◌∷◌, Float, Option, Some, None}
 use Rattle.num_float.specs.Color.{f0, channel_of}
 use Rattle.state.specs.declared.Rgba.{Rgba}
 use Rattle.combiner_inputs.specs.declared.ColorIn.{ColorIn}
 use Rattle.combiner_inputs.specs.declared.ColorIn.TheVariants as cin
 use Rattle.combiner_inputs.specs.declared.AlphaIn.{AlphaIn}
-use Rattle.combiner.specs.declared.Color.{Color}
-use Rattle.combiner.specs.declared.Color.TheVariants as color
 use Rattle.combiner.specs.declared.Combiner.{Combiner}
-use Rattle.combiner.specs.declared.Input.{Input}
-use Rattle.combiner.specs.declared.Input.TheVariants.{Value, Refused}
 use Rattle.combiner_resolved.specs.declared.Kind.{Kind}
 use Rattle.combiner_resolved.specs.declared.Kind.TheVariants.{Constant, ConstantShade, ShadeConstant, Shade, AlphaConstant, Alpha}
 use Rattle.combiner_resolved.specs.declared.Operand.{Operand}
@@ -48,13 +44,13 @@ unfoldable pub mixed_by : Resolved → Rgba → Rgba
 mixed_by m s = channels_of (input_by m.a s) (input_by m.b s) (input_by m.c s) (input_by m.d s)
 
 -- a colour that is there
-abbrev pub color_value : Rgba → Color
-color_value c = color.Value c.r c.g c.b c.a
+abbrev pub color_value : Rgba → Option Rgba
+color_value c = Some c
 
 -- ---- a draw
-unfoldable pub or_zero : Input → Float
-or_zero (Value x) = x
-or_zero Refused = f0
+unfoldable pub or_zero : Option Float → Float
+or_zero (Some x) = x
+or_zero None = f0
 
 unfoldable pub shade_flag : ColorIn → Bool
 shade_flag x = among color_number (cin.Shade ∷ []) x
@@ -71,7 +67,7 @@ kind_of false true false = AlphaConstant
 kind_of false false true = ConstantShade
 kind_of false false false = Constant
 
--- what a colour selector and an alpha selector name; a refused input counts as 0.0
+-- what a colour selector and an alpha selector name; an input that is not there counts as 0.0
 unfoldable pub operand_of : Combiner → ColorIn → AlphaIn → Operand
 operand_of k x y =
     record {

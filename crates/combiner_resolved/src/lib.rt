@@ -3,16 +3,17 @@
 #![tactic(auto)]
 
 ghost use Rattle.std.specs.Prelude.{◌≡◌};
-ghost use Rattle.combiner_resolved.specs.Resolved.{or_zero, input_by, channels_of, mixed_by, shade_flag, shade_alpha_flag, kind_of, operand_of, resolved_of};
+ghost use Rattle.combiner_resolved.specs.Resolved.{input_by, channels_of, mixed_by, shade_flag, shade_alpha_flag, kind_of, operand_of, resolved_of};
+ghost use Rattle.combiner_resolved.specs.Shaded.{shade_alpha};
 
-use combiner::{Combiner, Input};
+use combiner::Combiner;
 use combiner_inputs::{AlphaIn, ColorIn};
 use state::Rgba;
 
 pub mod shaded; // whether the colour turns on the shade
 
 // Where an operand's colour and its alpha come from. A name of two words says the colour's place first, then alpha's.
-#[derive(Clone, Copy)]
+#[derive(Clone, Copy, Debug, PartialEq, Eq)]
 pub enum Kind {
     Constant, // both from the constant
     ConstantShade, // the constant's colour, the shade's alpha
@@ -40,6 +41,7 @@ pub struct Resolved {
 
 impl Operand {
     // Every arm names its fields: a copy of a whole struct would go through memory.
+    #[tactic(auto, unfolding(crate::specs::Resolved::input_by, crate::specs::Resolved::input_of))]
     fn input(self, shade: Rgba) -> Rgba
         ensures { result ≡ input_by self shade }
     {
@@ -87,6 +89,7 @@ impl Operand {
 }
 
 // The equation in each channel.
+#[tactic(auto, unfolding(crate::specs::Resolved::channels_of))]
 fn channels(a: Rgba, b: Rgba, c: Rgba, d: Rgba) -> Rgba
     ensures { result ≡ channels_of a b c d }
 {
@@ -100,106 +103,61 @@ fn channels(a: Rgba, b: Rgba, c: Rgba, d: Rgba) -> Rgba
 
 impl Resolved {
     // The colour for a shade.
+    #[tactic(auto, unfolding(crate::specs::Resolved::mixed_by))]
     pub fn color(self, shade: Rgba) -> Rgba
         ensures { result ≡ mixed_by self shade }
     {
-        let input_a = self.a;
-        let a = input_a.input(shade);
-        let input_b = self.b;
-        let b = input_b.input(shade);
-        let input_c = self.c;
-        let c = input_c.input(shade);
-        let input_d = self.d;
-        let d = input_d.input(shade);
-        channels(a, b, c, d)
+        channels(
+            self.a.input(shade),
+            self.b.input(shade),
+            self.c.input(shade),
+            self.d.input(shade),
+        )
     }
 }
 
-fn value_or_zero(input: Input) -> f32
-    ensures { result ≡ or_zero input }
+// Where the colour comes from, and where alpha does.
+#[tactic(auto, unfolding(crate::specs::Resolved::kind_of, crate::specs::Resolved::shade_flag, crate::specs::Resolved::shade_alpha_flag, crate::specs::Shaded::shade_alpha, combiner_inputs::specs::Inputs::color_number, combiner_inputs::specs::Inputs::alpha_number))]
+fn kind_of(color: ColorIn, alpha: AlphaIn) -> Kind
+    ensures { result ≡ kind_of (shade_flag color) (shade_alpha_flag color) (shade_alpha alpha) }
 {
-    let Input::Value(x) = input else {
-        return 0.0;
-    };
-    x
-}
-
-fn shade_flag(input: ColorIn) -> bool
-    ensures { result ≡ shade_flag input }
-{
-    match input {
-        ColorIn::Shade => true,
-        _ => false,
+    match (color, alpha) {
+        (ColorIn::Shade, AlphaIn::Shade) => Kind::Shade,
+        (ColorIn::Shade, _) => Kind::ShadeConstant,
+        (ColorIn::ShadeAlpha, AlphaIn::Shade) => Kind::Alpha,
+        (ColorIn::ShadeAlpha, _) => Kind::AlphaConstant,
+        (_, AlphaIn::Shade) => Kind::ConstantShade,
+        _ => Kind::Constant,
     }
 }
 
-fn shade_alpha_flag(input: ColorIn) -> bool
-    ensures { result ≡ shade_alpha_flag input }
-{
-    match input {
-        ColorIn::ShadeAlpha => true,
-        _ => false,
-    }
-}
-
-// By whether the colour is the shade's, whether it is the shade's alpha, and whether alpha is the shade's.
-fn kind_of(shade: bool, shade_alpha: bool, alpha: bool) -> Kind
-    ensures { result ≡ kind_of shade shade_alpha alpha }
-{
-    if shade {
-        if alpha {
-            return Kind::Shade;
-        }
-        return Kind::ShadeConstant;
-    }
-    if shade_alpha {
-        if alpha {
-            return Kind::Alpha;
-        }
-        return Kind::AlphaConstant;
-    }
-    if alpha {
-        return Kind::ConstantShade;
-    }
-    Kind::Constant
-}
-
-// What a colour selector and an alpha selector name. A constant turns on no shade, so any shade tells it; a refused input counts as 0.0.
+// What a colour selector and an alpha selector name. A constant turns on no shade, so any shade tells it; an input that is not there counts as 0.0.
+#[tactic(auto, unfolding(crate::specs::Resolved::operand_of, crate::specs::Resolved::or_zero))]
 fn operand_of(combiner: Combiner, color: ColorIn, alpha: AlphaIn) -> Operand
     ensures { result ≡ operand_of combiner color alpha }
 {
     let full = combiner::full_shade();
-    let r = value_or_zero(combiner::color_input(combiner, color, full, 0));
-    let g = value_or_zero(combiner::color_input(combiner, color, full, 1));
-    let b = value_or_zero(combiner::color_input(combiner, color, full, 2));
-    let a = value_or_zero(combiner::alpha_input(combiner, alpha, full));
-    let kind = kind_of(
-        shade_flag(color),
-        shade_alpha_flag(color),
-        shaded::alpha_is_shade(alpha),
-    );
     Operand {
-        kind,
-        constant: Rgba { r, g, b, a },
+        kind: kind_of(color, alpha),
+        constant: Rgba {
+            r: combiner::color_input(combiner, color, full, 0).unwrap_or(0.0),
+            g: combiner::color_input(combiner, color, full, 1).unwrap_or(0.0),
+            b: combiner::color_input(combiner, color, full, 2).unwrap_or(0.0),
+            a: combiner::alpha_input(combiner, alpha, full).unwrap_or(0.0),
+        },
     }
 }
 
 // The combiner resolved for a draw.
+#[tactic(auto, unfolding(crate::specs::Resolved::resolved_of))]
 pub fn resolve(combiner: Combiner) -> Resolved
     ensures { result ≡ resolved_of combiner }
 {
     let s = combiner.selectors;
-    let ca = s.ca;
-    let aa = s.aa;
-    let a = operand_of(combiner, ca, aa);
-    let cb = s.cb;
-    let ab = s.ab;
-    let b = operand_of(combiner, cb, ab);
-    let cc = s.cc;
-    let ac = s.ac;
-    let c = operand_of(combiner, cc, ac);
-    let cd = s.cd;
-    let ad = s.ad;
-    let d = operand_of(combiner, cd, ad);
-    Resolved { a, b, c, d }
+    Resolved {
+        a: operand_of(combiner, s.ca, s.aa),
+        b: operand_of(combiner, s.cb, s.ab),
+        c: operand_of(combiner, s.cc, s.ac),
+        d: operand_of(combiner, s.cd, s.ad),
+    }
 }

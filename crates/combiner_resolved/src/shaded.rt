@@ -5,38 +5,33 @@ ghost use Rattle.combiner_resolved.specs.Shaded.{shade_color, shade_alpha, shade
 use combiner::Combiner;
 use combiner_inputs::{AlphaIn, ColorIn};
 
+#[tactic(auto, unfolding(crate::specs::Shaded::shade_color, combiner_inputs::specs::Inputs::color_number))]
 fn color_is_shade(input: ColorIn) -> bool
     ensures { result ≡ shade_color input }
 {
-    match input {
-        ColorIn::Shade | ColorIn::ShadeAlpha => true,
-        _ => false,
-    }
+    matches!(input, ColorIn::Shade | ColorIn::ShadeAlpha)
 }
 
+#[tactic(auto, unfolding(crate::specs::Shaded::shade_alpha, combiner_inputs::specs::Inputs::alpha_number))]
 pub fn alpha_is_shade(input: AlphaIn) -> bool
     ensures { result ≡ shade_alpha input }
 {
-    match input {
-        AlphaIn::Shade => true,
-        _ => false,
-    }
+    input == AlphaIn::Shade
 }
 
 // Whether one of the eight selectors reads the shade.
+#[tactic(auto, unfolding(crate::specs::Shaded::shade_used))]
 pub fn uses_shade(combiner: Combiner) -> bool
     ensures { result ≡ shade_used combiner }
 {
     let s = combiner.selectors;
-    let ca = s.ca;
-    let cb = s.cb;
-    let cc = s.cc;
-    let cd = s.cd;
-    let aa = s.aa;
-    let ab = s.ab;
-    let ac = s.ac;
-    let ad = s.ad;
-    let color = color_is_shade(ca) | color_is_shade(cb) | color_is_shade(cc) | color_is_shade(cd);
-    let alpha = alpha_is_shade(aa) | alpha_is_shade(ab) | alpha_is_shade(ac) | alpha_is_shade(ad);
-    color | alpha
+    let color = color_is_shade(s.ca)
+        || color_is_shade(s.cb)
+        || color_is_shade(s.cc)
+        || color_is_shade(s.cd);
+    let alpha = alpha_is_shade(s.aa)
+        || alpha_is_shade(s.ab)
+        || alpha_is_shade(s.ac)
+        || alpha_is_shade(s.ad);
+    color || alpha
 }
