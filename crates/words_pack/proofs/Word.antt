@@ -1,6 +1,9 @@
 -- The colour word: its fields do not overlap, so joining them by `or` adds them, and they fill sixteen bits. Assumes nothing.
-use Rattle.std.proofs.Common.{◌≡◌, ℕ, ◌+◌, ◌*◌, ◌%◌, ◌^◌, ◌<◌, ◌≤◌, sym, ap, ◌∙◌, subst, arith}
+use Rattle.std.proofs.Common.{◌≡◌, ℕ, ◌+◌, ◌*◌, ◌/◌, ◌%◌, ◌^◌, ◌<◌, ◌≤◌, sym, ap, ◌∙◌, subst, arith}
+use native.Mathlib.Nat.{mod-lt}
 use lib.Bits.{bit_or, or_shifted}
+use lib.Pow.{pow_pos}
+use Rattle.num_bits.specs.Field.{field}
 
 -- a field below bit k beside what stands from bit k up
 beside : (high a k low : ℕ) → high ≡ a * 2 ^ k → low < 2 ^ k → bit_or high low ≡ high + low
@@ -17,3 +20,8 @@ joined r g b t hr hg hb ht =
     ∙ ap (λ (x : ℕ). bit_or x t) (beside (R + G) (r * 32 + g) 6 B (omega arith) (omega arith))
     ∙ beside (R + G + B) (r * 1024 + g * 32 + b) 1 t (omega arith) (omega arith)
     ∙ sums
+
+-- a field of n bits is below 2 ^ n
+pub field_small : (v k n : ℕ) → field v k n < 2 ^ n
+unfolding field
+field_small v k n = mod-lt (v / 2 ^ k) (pow_pos n)

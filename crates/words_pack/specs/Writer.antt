@@ -1,7 +1,7 @@
 -- To be believed. The two bytes that a writer puts into memory for a pixel. Source: coherence.rs, whose image formats and sizes are those of Set Color
 -- Image in the N64 Programming Manual: fmt 0 RGBA, 1 YUV, 2 colour index, 3 intensity and alpha, 4 intensity; siz 0 to 3 for
 -- 4, 8, 16 and 32 bits a pixel. Definitions only.
-use Rattle.std.specs.Prelude.{ℕ, ◌+◌, ◌-◌, ◌*◌, ◌/◌, ◌%◌, ◌^◌, max, Bool, cond, ◌&&◌, ◌||◌, ◌==◌, from_bits, nat_le}
+use Rattle.std.specs.Prelude.{ℕ, ◌+◌, ◌-◌, ◌*◌, ◌/◌, ◌%◌, ◌^◌, max, Bool, cond, ◌&&◌, ◌||◌, ◌==◌, from_bits, nat_le, Option, None, Some}
 use Rattle.std.specs.Float.{binary32}
 use Rattle.num_bits.specs.Field.{field}
 use Rattle.words_pack.specs.Color.{pack_color_of}
@@ -11,8 +11,6 @@ use Rattle.words_pack.specs.declared.Bytes2.{Bytes2}
 use Rattle.words_pack.specs.declared.FramebufferEncoding.{FramebufferEncoding}
 use Rattle.words_pack.specs.declared.FramebufferEncoding.TheVariants.{Native, BigEndian}
 use Rattle.words_pack.specs.declared.ImageLayout.{ImageLayout}
-use Rattle.words_pack.specs.declared.Literal.{Literal}
-use Rattle.words_pack.specs.declared.Literal.TheVariants.{Absent, Word}
 use Rattle.state.specs.declared.Rgba8.{Rgba8}
 use Rattle.words_pack.specs.declared.Writer.{Writer}
 
@@ -64,13 +62,13 @@ unfoldable pub color_of : ImageLayout → Rgba8 → ℕ → ℕ → ℕ → Fram
 unfolding pixel_bytes_of bytes_of
 color_of l c coverage pixel mode e = cond (pixel_bytes_of l == 1) (column_byte l c pixel, 0) (bytes_of e (color_word l c coverage pixel mode))
 
--- What a supported writer puts down: the literal, if there is one, else a depth or a colour
-unfoldable pub written_of : Writer → Rgba8 → ℕ → ℕ → Literal → ℕ → FramebufferEncoding → Bytes2
+-- What a supported writer puts down: the draw's literal word, if it has one, else a depth or a colour
+unfoldable pub written_of : Writer → Rgba8 → ℕ → ℕ → Option ℕ → ℕ → FramebufferEncoding → Bytes2
 unfolding literal_of bytes_of color_of
-written_of w c coverage pixel (Word word) mode e = literal_of w.layout word pixel e
-written_of w c coverage pixel Absent mode e = cond w.depth (bytes_of e (pixel_depth_of c)) (color_of w.layout c coverage pixel mode e)
+written_of w c coverage pixel (Some word) mode e = literal_of w.layout word pixel e
+written_of w c coverage pixel None mode e = cond w.depth (bytes_of e (pixel_depth_of c)) (color_of w.layout c coverage pixel mode e)
 
 -- An unsupported writer puts down two zeros
-unfoldable pub encode_of : Writer → Rgba8 → ℕ → ℕ → Literal → ℕ → FramebufferEncoding → Bytes2
+unfoldable pub encode_of : Writer → Rgba8 → ℕ → ℕ → Option ℕ → ℕ → FramebufferEncoding → Bytes2
 unfolding supported_of written_of
 encode_of w c coverage pixel literal mode e = cond (supported_of w) (written_of w c coverage pixel literal mode e) (0, 0)

@@ -1,13 +1,12 @@
 // Pixels as the guest's memory words: the packing of coherence.rs, with pack_depth of framebuffers.rs.
 #![tactic(auto)]
 
-ghost use Rattle.std.specs.Prelude.{◌≡◌, ◌*◌, ◌<◌, ◌≤◌, from_bits};
-ghost use Rattle.std.specs.Float.{binary32};
+ghost use Rattle.std.specs.Prelude.{◌≡◌, ◌*◌, ◌<◌, ◌≤◌};
 ghost use Rattle.words_pack.specs.Color.{pack_channel_of, pack_color_of};
 ghost use Rattle.num_bits.specs.Field.{field};
 ghost use Rattle.words_pack.specs.Dither.{place_of, threshold_of};
 ghost use Rattle.words_pack.specs.Depth.{deepest, range, Within, word_in, depth_word, depth_of, pack_depth_of};
-ghost use Rattle.words_pack.specs.Writer.{supported_of, pixel_bytes_of, bytes_of, literal_of, bits_of, color_of, encode_of};
+ghost use Rattle.words_pack.specs.Writer.{supported_of, pixel_bytes_of, bytes_of, literal_of, pixel_depth_of, color_of, encode_of};
 
 use state::Rgba8;
 
@@ -33,13 +32,6 @@ pub enum FramebufferEncoding {
     BigEndian,
 }
 
-// A draw's literal word, if it has one.
-#[derive(Clone, Copy)]
-pub enum Literal {
-    Absent,
-    Word(u32),
-}
-
 // Two bytes of memory, the lower address first.
 #[derive(Clone, Copy)]
 pub struct Bytes2(pub u8, pub u8);
@@ -58,18 +50,12 @@ const BAYER_WORD: u64 = 0x2637_6273_1504_5140;
 const DEEPEST: u32 = 0x3ffff;
 
 // A channel's upper five bits, rounded up where the lower three are above the threshold.
+#[tactic(auto, unfolding(crate::specs::Color::pack_channel_of))]
 pub fn pack_channel(v: u8, threshold: u8) -> u8
     ensures { result ≡ pack_channel_of v threshold }
 {
-    let low = v & 7;
-    if low > threshold {
-        if v > 247 {
-            return 31;
-        }
-        let up = (v & 248) + 8;
-        return up >> 3;
-    }
-    v >> 3
+    let up = (v % 8 > threshold) as u8;
+    (v / 8 + up).min(31)
 }
 
 // A colour's word: five bits of each channel, and the coverage's top bit.
@@ -88,10 +74,11 @@ pub fn pack_color(rgba: Rgba8, coverage: u8, dither: u8) -> u16
 fn place(x: usize, y: usize) -> usize
     ensures { result ≡ place_of x y }
 {
-    (y & 3) * 4 + (x & 3)
+    y % 4 * 4 + x % 4
 }
 
 // The pixel's threshold by the dither mode: 0 and 2 the magic square, 1 Bayer's, else none is rounded up.
+#[tactic(auto, unfolding(crate::specs::Dither::threshold_of))]
 pub fn threshold(rgb_dither: u8, x: usize, y: usize) -> u8
     ensures { result ≡ threshold_of rgb_dither x y }
 {
@@ -104,16 +91,16 @@ pub fn threshold(rgb_dither: u8, x: usize, y: usize) -> u8
 }
 
 // An entry of a square.
+#[tactic(auto, using(crate::proofs::Squares::masked))]
 fn entry(square: u64, index: usize) -> u8
     requires { index < 16 }
     ensures { result ≡ field square (4 * index) 3 }
 {
-    let shift = 4 * index;
-    let low = (square >> shift) & 7;
-    low as u8
+    ((square >> (4 * index)) & 7) as u8
 }
 
 // `threshold`, from the words.
+#[tactic(auto, using(crate::proofs::Squares::magic_entry, crate::proofs::Squares::bayer_entry), unfolding(crate::specs::Dither::threshold_of))]
 pub fn word_threshold(rgb_dither: u8, x: usize, y: usize) -> u8
     ensures { result ≡ threshold_of rgb_dither x y }
 {
@@ -131,8 +118,7 @@ fn range_word(d: u32, exponent: u32, first: u32, shift: u32) -> u16
     ensures { result ≡ word_in (range exponent first shift) d }
 {
     let mantissa = (d - first) >> shift;
-    let word = mantissa * 4 + exponent * 8192;
-    word as u16
+    (mantissa * 4 + exponent * 8192) as u16
 }
 
 // The manual's eight ranges: each exponent with its first depth and its shift.
@@ -170,48 +156,37 @@ fn depth_of(depth: f32) -> u32
 {
     if depth > 0.0 {
         if depth < 1.0 {
-            return std::num::truncating_f32_to_u64(depth * 262144.0) as u32;
+            std::num::truncating_f32_to_u64(depth * 262144.0) as u32
+        } else {
+            DEEPEST
         }
-        return DEEPEST;
+    } else {
+        0
     }
-    0
 }
 
 // A depth's word, for every bit pattern.
+#[tactic(auto, using(crate::proofs::Units::depth_small), unfolding(crate::specs::Depth::pack_depth_of))]
 pub fn pack_depth(depth: f32) -> u16
     ensures { result ≡ pack_depth_of depth }
 {
     depth_word(depth_of(depth))
 }
 
-// The u32 whose little-endian bytes these are.
-fn bits_of(rgba: Rgba8) -> u32
-    ensures { result ≡ bits_of rgba }
+// The same of the float that lies in a pixel's four bytes.
+fn pack_depth_bytes(rgba: Rgba8) -> u16
+    ensures { result ≡ pixel_depth_of rgba }
 {
-    let r = rgba.r as u32;
-    let g = rgba.g as u32;
-    let b = rgba.b as u32;
-    let a = rgba.a as u32;
-    r + g * 0x100 + b * 0x10000 + a * 0x1000000
-}
-
-// The same of a float's bits. `from_bits` is not defined at a NaN's, which are those above infinity's.
-fn pack_depth_bits(bits: u32) -> u16
-    ensures { result ≡ pack_depth_of (from_bits binary32 bits) }
-{
-    let magnitude = bits % 0x8000_0000;
-    if magnitude > 0x7f80_0000 {
-        return 0;
-    }
-    pack_depth(f32::from_bits(bits))
+    let bits = u32::from_le_bytes([rgba.r, rgba.g, rgba.b, rgba.a]);
+    pack_depth(std::num::f32_from_bits_with_nan(bits))
 }
 
 // A word's bytes as they lie in memory.
+#[tactic(auto, unfolding(crate::specs::Writer::bytes_of))]
 pub fn encode_u16(encoding: FramebufferEncoding, word: u16) -> Bytes2
     ensures { result ≡ bytes_of encoding word }
 {
-    let low = (word % 256) as u8;
-    let high = (word >> 8) as u8;
+    let [low, high] = word.to_le_bytes();
     match encoding {
         FramebufferEncoding::Native => Bytes2(low, high),
         FramebufferEncoding::BigEndian => Bytes2(high, low),
@@ -219,41 +194,25 @@ pub fn encode_u16(encoding: FramebufferEncoding, word: u16) -> Bytes2
 }
 
 // Depths, 16-bit RGBA, and 8-bit colour index, intensity and alpha, or intensity.
+#[tactic(auto, unfolding(crate::specs::Writer::supported_of, crate::specs::Writer::color_supported))]
 pub fn supported(writer: Writer) -> bool
     ensures { result ≡ supported_of writer }
 {
-    let fmt = writer.layout.fmt;
-    let siz = writer.layout.siz;
-    if writer.depth {
-        return true;
-    }
-    if siz == 2 {
-        return fmt == 0;
-    }
-    if siz == 1 {
-        if fmt < 2 {
-            return false;
-        }
-        return fmt <= 4;
-    }
-    false
+    let ImageLayout { fmt, siz, .. } = writer.layout;
+    writer.depth || matches!((siz, fmt), (2, 0) | (1, 2..=4))
 }
 
 // Half a byte counts as a whole one.
+#[tactic(auto, unfolding(crate::specs::Writer::pixel_bytes_of))]
 pub fn pixel_bytes(layout: ImageLayout) -> usize
     requires { layout.siz ≤ 3 }
     ensures { result ≡ pixel_bytes_of layout }
 {
-    let siz = layout.siz as u32;
-    let bits = 4usize << siz;
-    let bytes = bits / 8;
-    if bytes < 1 {
-        return 1;
-    }
-    bytes
+    ((4 << layout.siz) / 8).max(1)
 }
 
 // The pixel's part of a literal word, which holds two halfwords or four bytes, the first pixel's on top.
+#[tactic(auto, using(crate::proofs::Word::field_small), unfolding(crate::specs::Writer::literal_of))]
 fn encode_literal(
     layout: ImageLayout,
     word: u32,
@@ -265,15 +224,15 @@ fn encode_literal(
 {
     if pixel_bytes(layout) == 2 {
         let half = (pixel % 2) as u32;
-        let taken = num_bits::bits(word, 16 * (1 - half), 16) as u16;
-        return encode_u16(encoding, taken);
+        encode_u16(encoding, num_bits::bits(word, 16 * (1 - half), 16) as u16)
+    } else {
+        let place = (pixel % 4) as u32;
+        Bytes2(num_bits::bits(word, 8 * (3 - place), 8) as u8, 0)
     }
-    let place = (pixel % 4) as u32;
-    let byte = num_bits::bits(word, 8 * (3 - place), 8) as u8;
-    Bytes2(byte, 0)
 }
 
 // A byte by the column's parity for one-byte pixels, else the packed word.
+#[tactic(auto, unfolding(crate::specs::Writer::color_of))]
 fn encode_color(
     layout: ImageLayout,
     rgba: Rgba8,
@@ -286,25 +245,25 @@ fn encode_color(
     ensures { result ≡ color_of layout rgba coverage pixel rgb_dither encoding }
 {
     let width = layout.width as usize;
-    let x = pixel % width;
-    let y = pixel / width;
+    let (x, y) = (pixel % width, pixel / width);
     if pixel_bytes(layout) == 1 {
-        if x & 1 == 0 {
-            return Bytes2(rgba.r, 0);
-        }
-        return Bytes2(rgba.g, 0);
+        Bytes2(if x % 2 == 0 { rgba.r } else { rgba.g }, 0)
+    } else {
+        encode_u16(
+            encoding,
+            pack_color(rgba, coverage, threshold(rgb_dither, x, y)),
+        )
     }
-    let t = threshold(rgb_dither, x, y);
-    encode_u16(encoding, pack_color(rgba, coverage, t))
 }
 
 // The two bytes that the writer puts down for a pixel; a one-byte pixel leaves the second 0.
+#[tactic(auto, unfolding(crate::specs::Writer::encode_of, crate::specs::Writer::written_of))]
 pub fn encode(
     writer: Writer,
     rgba: Rgba8,
     coverage: u8,
     pixel: usize,
-    literal: Literal,
+    literal: Option<u32>, // a draw's literal word, if it has one
     rgb_dither: u8,
     encoding: FramebufferEncoding,
 ) -> Bytes2
@@ -314,11 +273,9 @@ pub fn encode(
     if !supported(writer) {
         return Bytes2(0, 0);
     }
-    if let Literal::Word(word) = literal {
-        return encode_literal(writer.layout, word, pixel, encoding);
+    match literal {
+        Some(word) => encode_literal(writer.layout, word, pixel, encoding),
+        None if writer.depth => encode_u16(encoding, pack_depth_bytes(rgba)),
+        None => encode_color(writer.layout, rgba, coverage, pixel, rgb_dither, encoding),
     }
-    if writer.depth {
-        return encode_u16(encoding, pack_depth_bits(bits_of(rgba)));
-    }
-    encode_color(writer.layout, rgba, coverage, pixel, rgb_dither, encoding)
 }

@@ -22,14 +22,14 @@ returns-then-depth-2 c =
 overflow_cast-result : tie.Need-overflow_cast-result
 overflow_cast-result c = record { fits = omega (arith, returns-then-depth-2 c, depth_small c.args.depth) }
 
-returns-then-depth : tie.Need-returns-then-depth
+returns-else-depth-2 : tie.Need-returns-else-depth-2
 unfolding of_bits
-returns-then-depth c = outer c.args.depth c.if-depth.true c.if-depth-2.false
+returns-else-depth-2 c = outer c.args.depth c.if-depth.true c.if-depth-2.false
 
-returns : tie.Need-returns
+returns-else-depth : tie.Need-returns-else-depth
 unfolding of_bits
-returns c = none c.args.depth c.if-depth.false
+returns-else-depth c = none c.args.depth c.if-depth.false
 
 pub depth_of_spec : {M : Type 1} → statement M
 depth_of_spec =
-    tie.close (tie.spec truncating_f32_to_u64-requires overflow_cast-result returns-then-depth-2 returns-then-depth returns)
+    tie.close (tie.spec truncating_f32_to_u64-requires overflow_cast-result returns-then-depth-2 returns-else-depth-2 returns-else-depth)
