@@ -13,9 +13,9 @@ use Rattle.num_float.specs.Whole.{byte_of}
 use Rattle.state.specs.declared.RenderMode.{RenderMode}
 use Rattle.state.specs.declared.Rgba.{Rgba}
 use Rattle.combiner.specs.declared.Combiner.{Combiner}
-use Rattle.blender.specs.declared.Coverage.{Coverage}
+use Rattle.blender.specs.Coverage.{Coverage}
 use Rattle.blender.specs.declared.Mux.{Mux}
-use Rattle.blender.specs.declared.Coverage.TheVariants.{Unknown, Known}
+use Rattle.std.specs.Prelude.{None, Some}
 use Rattle.blender.specs.Mux.{mux_of}
 use Rattle.blender.specs.Coverage.{overflow, overflows, blends}
 use Rattle.blender.specs.Known.{reject, alone, missing, any_coverage, where_unknown, color_known}
@@ -24,11 +24,11 @@ use Rattle.num_float.proofs.Tests.{never}
 
 -- ---- coverages: nothing is known of the first, or the same of both
 pub data Less : Coverage → Coverage → Type 0 where
-  none : {d : Coverage} → Less Unknown d
-  same : {c : ℕ} → Less (Known c) (Known c)
+  none : {d : Coverage} → Less None d
+  same : {c : ℕ} → Less (Some c) (Some c)
 
 -- an unknown coverage is passed on as 0
-pub less_zero : {c d : Coverage} → Less c d → Less c (Known (or_zero d))
+pub less_zero : {c d : Coverage} → Less c d → Less c (Some (or_zero d))
 less_zero Less.none = Less.none
 less_zero Less.same = Less.same
 
@@ -69,8 +69,8 @@ where_less : (b : Bool) {c d : Coverage} → Less c d → where_unknown c b ≡ 
 where_less b (Less.none {d}) t = go d
   where
     go : (d : Coverage) → where_unknown d b ≡ true
-    go Unknown = t
-    go (Known c) = refl
+    go None = t
+    go (Some c) = refl
 where_less b Less.same t = refl
 
 module _ (mode : RenderMode) (alpha : Float) (n : ℕ) where
@@ -88,12 +88,12 @@ module _ (mode : RenderMode) (alpha : Float) (n : ℕ) where
   alone_less Less.same t = t
 
   -- a known coverage enters only by whether the samples overflow
-  pub alone_same : (i j : ℕ) → overflow n i ≡ overflow n j → alone mode alpha n (Known i) ≡ alone mode alpha n (Known j)
+  pub alone_same : (i j : ℕ) → overflow n i ≡ overflow n j → alone mode alpha n (Some i) ≡ alone mode alpha n (Some j)
   unfolding alone blends
   alone_same i j e = λ k. not (mode.force_blend || (mode.antialias && not (e k))) || reject mode alpha
 
   -- all eight samples overflow any coverage
-  pub full_alone : (c : ℕ) → mode.force_blend ≡ false → n ≡ 8 → alone mode alpha n (Known c) ≡ true
+  pub full_alone : (c : ℕ) → mode.force_blend ≡ false → n ≡ 8 → alone mode alpha n (Some c) ≡ true
   unfolding alone blends
   full_alone c f e =
       (λ i. not (f i || (mode.antialias && not (le-leb 8 (n + c) (omega arith) i))) || reject mode alpha) ∙ go mode.antialias
@@ -135,11 +135,11 @@ module _ (mode : RenderMode) (alpha : Float) (n : ℕ) (c : Coverage) (a : Bool)
       (λ t. where_less (any_coverage mode) l (any-coverage l t))
 
 -- where everything is known of the memory the colour can be told
-pub known_all : (mode : RenderMode) (alpha : Float) (n c : ℕ) → color_known mode alpha n (Known c) true ≡ true
+pub known_all : (mode : RenderMode) (alpha : Float) (n c : ℕ) → color_known mode alpha n (Some c) true ≡ true
 unfolding color_known
 known_all mode alpha n c =
     let x = mux_of mode.blender_mux in
-    chain_yes (missing x.p true) (alone mode alpha n (Known c)) (missing x.m true) true (there (eqb x.p 1)) (λ t. there (eqb x.m 1)) (λ t. refl)
+    chain_yes (missing x.p true) (alone mode alpha n (Some c)) (missing x.m true) true (there (eqb x.p 1)) (λ t. there (eqb x.m 1)) (λ t. refl)
   where
     there : (e : Bool) → (e && not true) ≡ false
     there true = refl
@@ -168,7 +168,7 @@ same_source i k color a {memory} {memory'} h t = go (eqb i 1) a t h
 
 -- B, for two coverages that the memory may have
 same_share :
-    (mode : RenderMode) (e : Float) {c : Coverage} {i j : ℕ} → Less c (Known i) → Less c (Known j) → where_unknown c (any_coverage mode) ≡ true
+    (mode : RenderMode) (e : Float) {c : Coverage} {i j : ℕ} → Less c (Some i) → Less c (Some j) → where_unknown c (any_coverage mode) ≡ true
     → factor_b (mux_of mode.blender_mux).b e i ≡ factor_b (mux_of mode.blender_mux).b e j
 unfolding any_coverage factor_b
 same_share mode e Less.same Less.same t = refl
@@ -192,13 +192,13 @@ same_share mode e {i = i} {j = j} Less.none Less.none t =
 -- where the colour is known, a blend gives the same bytes for two coverages that the memory may have, if it stands alone over both or over neither
 pub blend_same :
     (mode : RenderMode) (k : Combiner) (color : Rgba) (shade : Float) (n : ℕ) (c : Coverage) (a : Bool) (memory memory' : Rgba) (i j : ℕ)
-    → color_known mode color.a n c a ≡ true → (a ≡ true → memory ≡ memory') → Less c (Known i) → Less c (Known j)
-    → alone mode color.a n (Known i) ≡ alone mode color.a n (Known j)
+    → color_known mode color.a n c a ≡ true → (a ≡ true → memory ≡ memory') → Less c (Some i) → Less c (Some j)
+    → alone mode color.a n (Some i) ≡ alone mode color.a n (Some j)
     → blend_of mode k color memory shade n i ≡ blend_of mode k color memory' shade n j
 unfolding blend_of
 blend_same mode k color shade n c a memory memory' i j told h li lj stands =
     rw (sym stands)
-    (same_bytes mode.force_blend e color.a (alone mode color.a n (Known i))
+    (same_bytes mode.force_blend e color.a (alone mode color.a n (Some i))
     (same_source x.p k color a h (p_there mode color.a n c a told))
     (λ t. same_source x.m k color a h (m_there mode color.a n c a told li t))
     (λ t. same_share mode e li lj (any-coverage mode color.a n c a told li t)))
@@ -213,7 +213,7 @@ blend_same mode k color shade n c a memory memory' i j told h li lj stands =
 pub alone_blend_same :
     (mode : RenderMode) (k : Combiner) (color : Rgba) (shade : Float) (n : ℕ) (a : Bool) (memory memory' : Rgba) (i j : ℕ)
     → missing (mux_of mode.blender_mux).p a ≡ false → (a ≡ true → memory ≡ memory')
-    → alone mode color.a n (Known i) ≡ true → alone mode color.a n (Known j) ≡ true
+    → alone mode color.a n (Some i) ≡ true → alone mode color.a n (Some j) ≡ true
     → blend_of mode k color memory shade n i ≡ blend_of mode k color memory' shade n j
 unfolding blend_of
 alone_blend_same mode k color shade n a memory memory' i j there h here too =
@@ -226,7 +226,7 @@ alone_blend_same mode k color shade n a memory memory' i j there h here too =
 -- and where P is the memory's colour, they are that colour's
 pub alone_blend_memory :
     (mode : RenderMode) (k : Combiner) (color : Rgba) (shade : Float) (n : ℕ) (memory : Rgba) (i : ℕ)
-    → (mux_of mode.blender_mux).p ≡ 1 → alone mode color.a n (Known i) ≡ true → (blend_of mode k color memory shade n i).r ≡ byte_of memory.r
+    → (mux_of mode.blender_mux).p ≡ 1 → alone mode color.a n (Some i) ≡ true → (blend_of mode k color memory shade n i).r ≡ byte_of memory.r
 unfolding blend_of bytes_of mixed_of
 alone_blend_memory mode k color shade n memory i e stands =
     let x = mux_of mode.blender_mux in

@@ -12,8 +12,8 @@ use Rattle.num_float.specs.Whole.{byte_of}
 use Rattle.state.specs.declared.RenderMode.{RenderMode}
 use Rattle.state.specs.declared.Rgba.{Rgba}
 use Rattle.combiner.specs.declared.Combiner.{Combiner}
-use Rattle.blender.specs.declared.Coverage.{Coverage}
-use Rattle.blender.specs.declared.Coverage.TheVariants.{Unknown, Known}
+use Rattle.blender.specs.Coverage.{Coverage}
+use Rattle.std.specs.Prelude.{None, Some}
 use Rattle.blender.specs.Mux.{mux_of}
 use Rattle.blender.specs.Coverage.{overflows, blends}
 use Rattle.blender.specs.Known.{reject, alone, missing, any_coverage, where_unknown, color_known}
@@ -37,7 +37,7 @@ unshaded_blend mode k rgba memory s t n c e =
     let x = mux_of mode.blender_mux in
     let a = unshaded x.a rgba.a k.fog.a s t e in
     λ i.
-    bytes_of (alone mode rgba.a n (Known c)) mode.force_blend (source_of x.p k rgba memory) (a i) (source_of x.m k rgba memory) (factor_b x.b (a i) c) rgba.a
+    bytes_of (alone mode rgba.a n (Some c)) mode.force_blend (source_of x.p k rgba memory) (a i) (source_of x.m k rgba memory) (factor_b x.b (a i) c) rgba.a
 
 -- ---- what is said of a pixel that is layered
 pub record Layered (mode : RenderMode) (alpha : Float) : Type 0 where
@@ -89,10 +89,10 @@ module _ {mode : RenderMode} {alpha : Float} (o : Layered mode alpha) where
       ∙ told c memory
     where
       told : (c : Coverage) (m : Bool) → cond (not m) false (where_unknown c true) ≡ m
-      told Unknown true = refl
-      told Unknown false = refl
-      told (Known c) true = refl
-      told (Known c) false = refl
+      told None true = refl
+      told None false = refl
+      told (Some c) true = refl
+      told (Some c) false = refl
 
 -- B, where it is not the memory's coverage
 uncovered : (k : ℕ) (s t : Float) (c d : ℕ) → eqb k 1 ≡ false → s ≡ t → factor_b k s c ≡ factor_b k t d
@@ -115,7 +115,7 @@ module _ (mode : RenderMode) (k : Combiner) (rgba memory : Rgba) (shade : Float)
       let a = unshaded x.a rgba.a k.fog.a shade f0 o.shade in
       let p = own_source x.p k rgba memory o.own in
       let m : source_of x.m k rgba memory ≡ memory = λ i. source_of (eqb-true x.m 1 o.memory i) k rgba memory in
-      let t = layer_blends o n (Known c) in
+      let t = layer_blends o n (Some c) in
       let b = uncovered x.b _ _ c 0 o.coverage a in (
         λ i. byte_of (mixed_of (t i) (o.forced i) (p i).r (a i) (m i).r (b i)),
         (λ i. byte_of (mixed_of (t i) (o.forced i) (p i).g (a i) (m i).g (b i)), λ i. byte_of (mixed_of (t i) (o.forced i) (p i).b (a i) (m i).b (b i))),
@@ -139,13 +139,13 @@ steady mode h =
 
 module _ {mode : RenderMode} (o : Steady mode) (alpha : Float) where
   -- a full pixel stands alone over a known coverage
-  pub steady_alone : (c : ℕ) → alone mode alpha 8 (Known c) ≡ true
+  pub steady_alone : (c : ℕ) → alone mode alpha 8 (Some c) ≡ true
   steady_alone c = full_alone mode alpha 8 c o.free refl
 
-  pub steady_known : (c : ℕ) (memory : Bool) → color_known mode alpha 8 (Known c) memory ≡ true
+  pub steady_known : (c : ℕ) (memory : Bool) → color_known mode alpha 8 (Some c) memory ≡ true
   unfolding color_known
   steady_known c memory =
-      λ i. cond (o.own i && not memory) false (cond (steady_alone c i) true (cond (missing (mux_of mode.blender_mux).m memory) false (where_unknown (Known c) (any_coverage mode))))
+      λ i. cond (o.own i && not memory) false (cond (steady_alone c i) true (cond (missing (mux_of mode.blender_mux).m memory) false (where_unknown (Some c) (any_coverage mode))))
 
   -- and where it is not opaque, it is in doubt over an unknown one
   pub steady_doubt : opaque_of mode alpha ≡ false → (mode.antialias && not mode.force_blend && not (reject mode alpha)) ≡ true

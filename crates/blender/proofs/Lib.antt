@@ -1,5 +1,4 @@
 -- What several proofs of `blender` share, and the laws that callers cite.
-pub mod Picked
 pub mod Range
 pub mod Solid
 pub mod Knows

@@ -1,11 +1,10 @@
 -- The coverage that memory keeps has three bits, where the pixel has 1 to 8 samples and the memory's coverage has three. Assumes nothing.
-use mathlib.Core.Path.{◌≡◌, sym, subst}
 use Prim.Native.Nat.{ℕ, ◌≤◌}
 use native.Mathlib.Omega.{arith}
 use mathlib.Core.Bool.{Bool, true, false, cond}
 use lib.Dec.{eqb}
 use Rattle.state.specs.declared.RenderMode.{RenderMode}
-use Rattle.blender.specs.declared.Coverage.TheVariants.{Known}
+use Rattle.std.specs.Prelude.{Some}
 use Rattle.blender.specs.Coverage.{blends, clamp_of, destination_of}
 
 -- what `destination` asks of a count and of the memory's coverage
@@ -27,11 +26,4 @@ pub destination_le : (mode : RenderMode) (n c : ℕ) → Counts n c → destinat
 unfolding destination_of
 destination_le mode n c h =
     let k = mode.cvg_dst in
-    picked (eqb k 0) (eqb k 1) (eqb k 2) _ _ _ _ (clamp_le (blends mode n (Known c)) n c h) (omega arith) (omega arith) h.2
-
--- what `destination` ensures of its result
-abbrev pub Kept : RenderMode → ℕ → ℕ → ℕ → Type 0
-Kept mode n c r = (r ≡ destination_of mode n c) × (r ≤ 7)
-
-pub kept : (mode : RenderMode) (n c r : ℕ) → Counts n c → r ≡ destination_of mode n c → Kept mode n c r
-kept mode n c r h e = (e, subst (λ (x : ℕ). x ≤ 7) (sym e) (destination_le mode n c h))
+    picked (eqb k 0) (eqb k 1) (eqb k 2) _ _ _ _ (clamp_le (blends mode n (Some c)) n c h) (omega arith) (omega arith) h.2

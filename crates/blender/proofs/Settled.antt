@@ -7,20 +7,20 @@ use native.Mathlib.Omega.{arith}
 use borrow.Author.Tests.{leb-true, leb-false, eq-eqb, ne_eqb, le-leb, lt-leb}
 use lib.Dec.{leb, eqb}
 use Rattle.state.specs.declared.RenderMode.{RenderMode}
-use Rattle.blender.specs.declared.Coverage.{Coverage}
-use Rattle.blender.specs.declared.Coverage.TheVariants.{Unknown, Known}
+use Rattle.blender.specs.Coverage.{Coverage}
+use Rattle.std.specs.Prelude.{None, Some}
 use Rattle.blender.specs.Coverage.{overflow, blends, clamp_of, destination_of}
 use Rattle.blender.specs.Settled.{settled_clamp, settled_of}
 
 -- what two answers say: the number, if they are one
 abbrev pub one_number : ℕ → ℕ → Coverage
-one_number last first = cond (eqb last first) (Known first) Unknown
+one_number last first = cond (eqb last first) (Some first) None
 
-one_known : (last first v : ℕ) → last ≡ v → first ≡ v → Known v ≡ one_number last first
-one_known last first v p q = sym ((λ i. cond (eq-eqb last first (p ∙ sym q) i) (Known first) Unknown) ∙ ap Known q)
+one_known : (last first v : ℕ) → last ≡ v → first ≡ v → Some v ≡ one_number last first
+one_known last first v p q = sym ((λ i. cond (eq-eqb last first (p ∙ sym q) i) (Some first) None) ∙ ap Some q)
 
-one_unknown : (last first : ℕ) → (last ≡ first → ⊥) → Unknown ≡ one_number last first
-one_unknown last first p = sym (λ i. cond (ne_eqb last first p i) (Known first) Unknown)
+one_unknown : (last first : ℕ) → (last ≡ first → ⊥) → None ≡ one_number last first
+one_unknown last first p = sym (λ i. cond (ne_eqb last first p i) (Some first) None)
 
 module _ (n : ℕ) where
   abbrev clamp : Bool → Bool → ℕ → ℕ
@@ -64,12 +64,12 @@ module _ (n : ℕ) where
   settled-clamp p q false false = one_known (n - 1) (n - 1) (n - 1) refl refl
   settled-clamp p q true a = go (leb 7 n) refl
     where
-      go : (b : Bool) → leb 7 n ≡ b → cond b (Known 7) Unknown ≡ one_number (min (n + 7) 7) (min (n + 0) 7)
+      go : (b : Bool) → leb 7 n ≡ b → cond b (Some 7) None ≡ one_number (min (n + 7) 7) (min (n + 0) 7)
       go true h = let l = leb-true 7 n h in one_known (min (n + 7) 7) (min (n + 0) 7) 7 (omega arith) (omega arith)
       go false h = let l = leb-false 7 n h in one_unknown (min (n + 7) 7) (min (n + 0) 7) (λ e. omega arith)
   settled-clamp p q false true = go (leb 8 n) refl
     where
-      go : (b : Bool) → leb 8 n ≡ b → cond b (Known 7) Unknown ≡ one_number (clamp false true 7) (clamp false true 0)
+      go : (b : Bool) → leb 8 n ≡ b → cond b (Some 7) None ≡ one_number (clamp false true 7) (clamp false true 0)
       go true h =
           let l = leb-true 8 n h in
           one_known (clamp false true 7) (clamp false true 0) 7 (own 7 (omega arith) ∙ omega arith) (own 0 (omega arith) ∙ omega arith)
@@ -95,7 +95,7 @@ module _ (mode : RenderMode) (n : ℕ) where
   unfolding settled_of destination_of blends clamp_of
   settled_ends p q = go (eqb mode.cvg_dst 0) (eqb mode.cvg_dst 1) (eqb mode.cvg_dst 2)
     where
-      go : (zero wrap two : Bool) → cond zero (settled_clamp mode.force_blend mode.antialias n) (cond wrap Unknown (cond two (Known 7) Unknown)) ≡ one_number (at zero wrap two 7) (at zero wrap two 0)
+      go : (zero wrap two : Bool) → cond zero (settled_clamp mode.force_blend mode.antialias n) (cond wrap None (cond two (Some 7) None)) ≡ one_number (at zero wrap two 7) (at zero wrap two 0)
       go true wrap two = settled-clamp n p q mode.force_blend mode.antialias
       go false true two = one_unknown ((n + 7) % 8) ((n + 0) % 8) (λ e. omega arith)
       go false false true = refl

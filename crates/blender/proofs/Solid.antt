@@ -8,8 +8,8 @@ use Rattle.num_float.specs.Whole.{byte_of}
 use Rattle.state.specs.declared.RenderMode.{RenderMode}
 use Rattle.state.specs.declared.Rgba.{Rgba}
 use Rattle.combiner.specs.declared.Combiner.{Combiner}
-use Rattle.blender.specs.declared.Coverage.{Coverage}
-use Rattle.blender.specs.declared.Coverage.TheVariants.{Known}
+use Rattle.blender.specs.Coverage.{Coverage}
+use Rattle.std.specs.Prelude.{Some}
 use Rattle.blender.specs.Mux.{mux_of}
 use Rattle.blender.specs.Coverage.{overflows, blends}
 use Rattle.blender.specs.Known.{reject, alone, missing, any_coverage, where_unknown, color_known}
@@ -63,7 +63,7 @@ own_source k combiner rgba memory e =
 module _
     (mode : RenderMode) (combiner : Combiner) (rgba memory : Rgba) (shade : Float) (n c : ℕ)
     (own : eqb (mux_of mode.blender_mux).p 1 ≡ false)
-    (alone : alone mode rgba.a n (Known c) ≡ true) where
+    (alone : alone mode rgba.a n (Some c) ≡ true) where
   -- and the bytes of a pixel that stands alone are P's
   pub alone_blend :
       let bytes = blend_of mode combiner rgba memory shade n c in

@@ -1,7 +1,7 @@
 -- To be believed. The blend of a pixel with memory, as Rust's `blend`: each operation rounded once to an f32. Definitions only.
 -- Source: N64 Programming Manual, RDP chapter, the blender; N64brew wiki, Reality Display Processor, Set Other Modes (P, A, M, B); order of the
 -- operations from writeback.rs.
-use Rattle.std.specs.Prelude.{ℕ, Bool, false, cond, pos, Float}
+use Rattle.std.specs.Prelude.{ℕ, Bool, false, cond, pos, Float, Some, unwrap_or}
 use Rattle.std.specs.Float.{fin, binary32}
 use Rattle.std.specs.Float.Ieee.{of_int, lt, add, sub, mul, div}
 use Rattle.num_float.specs.Color.{f0, f1}
@@ -10,8 +10,7 @@ use Rattle.state.specs.declared.RenderMode.{RenderMode}
 use Rattle.state.specs.declared.Rgba.{Rgba}
 use Rattle.combiner.specs.declared.Combiner.{Combiner}
 use Rattle.state.specs.declared.Rgba8.{Rgba8}
-use Rattle.blender.specs.declared.Coverage.{Coverage}
-use Rattle.blender.specs.declared.Coverage.TheVariants.{Unknown, Known}
+use Rattle.blender.specs.Coverage.{Coverage}
 use Rattle.blender.specs.Mux.{mux_of, pick}
 use Rattle.blender.specs.Known.{alone}
 
@@ -56,11 +55,10 @@ unfoldable pub blend_of : RenderMode → Combiner → Rgba → Rgba → Float �
 blend_of mode combiner rgba memory shade n c =
     let x = mux_of mode.blender_mux in
     let a = factor_a x.a rgba.a combiner.fog.a shade in
-    bytes_of (alone mode rgba.a n (Known c)) mode.force_blend
+    bytes_of (alone mode rgba.a n (Some c)) mode.force_blend
     (source_of x.p combiner rgba memory) a (source_of x.m combiner rgba memory) (factor_b x.b a c)
     rgba.a
 
 -- a coverage that is not known is passed as 0
 abbrev pub or_zero : Coverage → ℕ
-or_zero Unknown = 0
-or_zero (Known c) = c
+or_zero coverage = unwrap_or coverage 0

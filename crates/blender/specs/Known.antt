@@ -1,13 +1,11 @@
 -- To be believed. Whether the colour of an emitted pixel can be told, from what is known of the memory under it: Rust's `color_known`, in its order.
 -- Definitions only. Source: writeback.rs; the selectors' numbers as in specs/Blend.antt.
-use Rattle.std.specs.Prelude.{ℕ, Bool, true, false, cond, not, ◌&&◌, ◌||◌, eqb, Float}
+use Rattle.std.specs.Prelude.{ℕ, Bool, true, false, cond, not, ◌&&◌, ◌||◌, eqb, Float, Some, None}
 use Rattle.std.specs.Float.Ieee.{le}
 use Rattle.num_float.specs.Color.{f1}
 use Rattle.state.specs.declared.RenderMode.{RenderMode}
-use Rattle.blender.specs.declared.Coverage.{Coverage}
-use Rattle.blender.specs.declared.Coverage.TheVariants.{Unknown, Known}
 use Rattle.blender.specs.Mux.{mux_of}
-use Rattle.blender.specs.Coverage.{blends}
+use Rattle.blender.specs.Coverage.{Coverage, blends}
 
 -- A is the pixel's alpha, B is 1 - A, and the alpha is 1.0 or more: M has no share
 unfoldable pub reject : RenderMode → Float → Bool
@@ -30,8 +28,8 @@ any_coverage mode =
 
 -- b asks more where the coverage is unknown
 abbrev pub where_unknown : Coverage → Bool → Bool
-where_unknown Unknown b = b
-where_unknown (Known c) b = true
+where_unknown None b = b
+where_unknown (Some c) b = true
 
 -- the colour of a pixel with n samples can be told; `memory` says that the memory's colour is known
 unfoldable pub color_known : RenderMode → Float → ℕ → Coverage → Bool → Bool

@@ -17,6 +17,7 @@ pub struct Layer {
 }
 
 // Whether the pixel is laid over the memory's colour, by factors that turn on neither the memory's coverage nor the shade.
+#[tactic(auto, unfolding(crate::specs::Layer::layered_of))]
 pub fn layered(mode: RenderMode, alpha: f32) -> bool
     ensures { result ≡ layered_of mode alpha }
 {
@@ -26,6 +27,7 @@ pub fn layered(mode: RenderMode, alpha: f32) -> bool
 }
 
 // Whether P is stored as it is where the samples of pixel and memory are more than 8, and the shade's alpha enters nowhere.
+#[tactic(auto, unfolding(crate::specs::Layer::steady_of))]
 pub fn steady(mode: RenderMode) -> bool
     ensures { result ≡ steady_of mode }
 {
@@ -34,6 +36,7 @@ pub fn steady(mode: RenderMode) -> bool
 }
 
 // Of a pixel that is layered: neither a shade nor a coverage enters it, so that 0 stands for both.
+#[tactic(auto, unfolding(crate::specs::Layer::layer_of))]
 pub fn layer_of(mode: RenderMode, combiner: Combiner, rgba: Rgba) -> Layer
     ensures { result ≡ layer_of mode combiner rgba }
 {

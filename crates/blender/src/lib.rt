@@ -6,20 +6,16 @@ ghost use Rattle.blender.specs.Mux.{mux_of};
 ghost use Rattle.blender.specs.Coverage.{overflows, blends, clamp_of, destination_of};
 ghost use Rattle.blender.specs.Known.{reject, alone, missing, any_coverage, color_known};
 ghost use Rattle.blender.specs.Layer.{opaque_of, own_of};
-ghost use Rattle.blender.specs.Blend.{source_of, factor_a, factor_b, divisor_of, mixed_of, bytes_of, blend_of, or_zero};
-ghost use Rattle.blender.specs.Joined.{is_known, or_zeros, joined};
+ghost use Rattle.blender.specs.Blend.{source_of, factor_a, factor_b, divisor_of, mixed_of, bytes_of, blend_of};
+ghost use Rattle.blender.specs.Joined.{or_zeros, joined};
 
 use combiner::Combiner;
 use state::{RenderMode, Rgba, Rgba8};
 
 pub mod layer; // pixels whose blend is a sum with the memory's colour, or stored as they are where the samples overflow
 
-// A pixel's coverage in memory, 0 to 7 for 1 to 8 samples, or that it is not known.
-#[derive(Clone, Copy)]
-pub enum Coverage {
-    Unknown,
-    Known(u8),
-}
+// A pixel's coverage in memory, 0 to 7 for 1 to 8 samples, if it is known.
+pub type Coverage = Option<u8>;
 
 // An emitted pixel: its combined colour, its shade alpha and its number of samples.
 #[derive(Clone, Copy)]
@@ -27,20 +23,6 @@ pub struct Source {
     pub color: Rgba,
     pub shade_alpha: f32,
     pub count: u8,
-}
-
-// A pixel's colour in memory, or that it is not known.
-#[derive(Clone, Copy)]
-pub enum Memory {
-    Unknown,
-    Known(Rgba),
-}
-
-// What is stored of a pixel: red, green, blue and alpha, or a fallback where `color_known` says no.
-#[derive(Clone, Copy)]
-pub enum Joined {
-    Fallback,
-    Stored(u8, u8, u8, u8),
 }
 
 // The blender's four selectors, each from 0 to 3.
@@ -53,6 +35,7 @@ pub struct Mux {
 }
 
 // The first cycle's selectors: the mux is the upper half of the other mode's low word.
+#[tactic(auto, unfolding(crate::specs::Mux::mux_of))]
 pub fn decode_mux(word: u16) -> Mux
     ensures { result ≡ mux_of word }
 {
@@ -69,128 +52,88 @@ pub fn decode_mux(word: u16) -> Mux
 fn overflowing(count: u8, coverage: Coverage) -> bool
     ensures { result ≡ overflows count coverage }
 {
-    match coverage {
-        Coverage::Unknown => false,
-        Coverage::Known(c) => {
-            let sum = (count as u32) + (c as u32);
-            8 <= sum
-        }
-    }
+    coverage.is_some_and(|c| 8 <= count as u32 + c as u32)
 }
 
 // Whether the pixel is blended with memory.
+#[tactic(auto, unfolding(crate::specs::Coverage::blends))]
 pub fn blending(mode: RenderMode, count: u8, coverage: Coverage) -> bool
     ensures { result ≡ blends mode count coverage }
 {
-    if mode.force_blend {
-        return true;
-    }
-    if mode.antialias {
-        return !overflowing(count, coverage);
-    }
-    false
+    mode.force_blend || (mode.antialias && !overflowing(count, coverage))
 }
 
 // cvg_dst 0.
+#[tactic(auto, unfolding(crate::specs::Coverage::clamp_of))]
 fn clamp(blend: bool, count: u8, memory: u8) -> u8
     requires { (1 ≤ count) × (count ≤ 8) × (memory ≤ 7) }
     ensures { result ≡ clamp_of blend count memory }
 {
     if blend {
-        let sum = count + memory;
-        if sum < 7 {
-            return sum;
-        }
-        return 7;
+        (count + memory).min(7)
+    } else {
+        count - 1
     }
-    count - 1
 }
 
 // The coverage that memory keeps after the pixel.
+#[tactic(auto, using(crate::proofs::Range::destination_le), unfolding(crate::specs::Coverage::destination_of))]
 pub fn destination(mode: RenderMode, count: u8, memory: u8) -> u8
     requires { (1 ≤ count) × (count ≤ 8) × (memory ≤ 7) }
     ensures { (result ≡ destination_of mode count memory) × (result ≤ 7) }
 {
-    let blend = blending(mode, count, Coverage::Known(memory));
-    let sum = count + memory;
-    let dst = mode.cvg_dst;
-    match dst {
-        0 => clamp(blend, count, memory),
-        1 => sum % 8,
+    match mode.cvg_dst {
+        0 => clamp(blending(mode, count, Some(memory)), count, memory),
+        1 => (count + memory) % 8,
         2 => 7,
         _ => memory,
     }
 }
 
 // Rust's `reject`: A is the pixel's alpha, B is 1 - A, and the alpha is whole, so that M has no share.
+#[tactic(auto, unfolding(crate::specs::Known::reject))]
 pub fn rejects(mode: RenderMode, alpha: f32) -> bool
     ensures { result ≡ reject mode alpha }
 {
     let mux = decode_mux(mode.blender_mux);
-    if mux.a != 0 {
-        return false;
-    }
-    if mux.b != 0 {
-        return false;
-    }
-    alpha >= 1.0
+    mux.a == 0 && mux.b == 0 && alpha >= 1.0
 }
 
 // Whether P is stored as it is: no blend, or M has no share.
+#[tactic(auto, unfolding(crate::specs::Known::alone))]
 fn stands_alone(mode: RenderMode, alpha: f32, count: u8, coverage: Coverage) -> bool
     ensures { result ≡ alone mode alpha count coverage }
 {
-    if blending(mode, count, coverage) {
-        return rejects(mode, alpha);
-    }
-    true
+    !blending(mode, count, coverage) || rejects(mode, alpha)
 }
 
 // Whether nothing of the memory enters the pixel's colour.
+#[tactic(auto, unfolding(crate::specs::Layer::opaque_of))]
 pub fn opaque(mode: RenderMode, alpha: f32) -> bool
     ensures { result ≡ opaque_of mode alpha }
 {
     let mux = decode_mux(mode.blender_mux);
-    if mux.p == 1 {
-        return false;
-    }
-    if rejects(mode, alpha) {
-        return true;
-    }
-    if mode.force_blend {
-        return false;
-    }
-    !mode.antialias
+    mux.p != 1 && (rejects(mode, alpha) || !(mode.force_blend || mode.antialias))
 }
 
 // Whether a selector of P or M names the memory's colour while that is not known.
 fn lacking(selector: u32, memory_rgb: bool) -> bool
     ensures { result ≡ missing selector memory_rgb }
 {
-    if selector == 1 {
-        return !memory_rgb;
-    }
-    false
+    selector == 1 && !memory_rgb
 }
 
 // Whether the colour can be told though the coverage in memory is not known.
+#[tactic(auto, unfolding(crate::specs::Known::any_coverage))]
 fn any_coverage(mode: RenderMode) -> bool
     ensures { result ≡ any_coverage mode }
 {
     let mux = decode_mux(mode.blender_mux);
-    if mux.b == 1 {
-        return false;
-    }
-    if mode.force_blend {
-        return true;
-    }
-    if mux.p != mux.m {
-        return false;
-    }
-    mux.b == 0
+    mux.b != 1 && (mode.force_blend || (mux.p == mux.m && mux.b == 0))
 }
 
 // Whether the pixel's colour can be told from what is known of the memory under it.
+#[tactic(auto, unfolding(crate::specs::Known::color_known))]
 pub fn color_known(
     mode: RenderMode,
     alpha: f32,
@@ -201,19 +144,9 @@ pub fn color_known(
     ensures { result ≡ color_known mode alpha count coverage memory_rgb }
 {
     let mux = decode_mux(mode.blender_mux);
-    if lacking(mux.p, memory_rgb) {
-        return false;
-    }
-    if stands_alone(mode, alpha, count, coverage) {
-        return true;
-    }
-    if lacking(mux.m, memory_rgb) {
-        return false;
-    }
-    match coverage {
-        Coverage::Unknown => any_coverage(mode),
-        Coverage::Known(_) => true,
-    }
+    !lacking(mux.p, memory_rgb)
+        && (stands_alone(mode, alpha, count, coverage)
+            || (!lacking(mux.m, memory_rgb) && (coverage.is_some() || any_coverage(mode))))
 }
 
 // The colour itself, channel by channel: the compiler then chooses one of several by a branch, and no pixel waits for a copy in memory.
@@ -253,6 +186,7 @@ fn factor_a(selector: u32, alpha: f32, fog: f32, shade: f32) -> f32
 }
 
 // The factor of M.
+#[tactic(auto, unfolding(crate::specs::Blend::factor_b))]
 fn factor_b(selector: u32, a: f32, coverage: u8) -> f32
     ensures { result ≡ factor_b selector a coverage }
 {
@@ -273,6 +207,7 @@ fn divisor(sum: f32) -> f32
 }
 
 // One channel.
+#[tactic(auto, unfolding(crate::specs::Blend::mixed_of))]
 fn mixed(stands: bool, forced: bool, p: f32, a: f32, m: f32, b: f32) -> f32
     ensures { result ≡ mixed_of stands forced p a m b }
 {
@@ -280,13 +215,11 @@ fn mixed(stands: bool, forced: bool, p: f32, a: f32, m: f32, b: f32) -> f32
         return p;
     }
     let sum = p * a + m * b;
-    if forced {
-        return sum;
-    }
-    sum / divisor(a + b)
+    if forced { sum } else { sum / divisor(a + b) }
 }
 
 // The colour of a pixel that is opaque: P is not the memory's.
+#[tactic(auto, unfolding(crate::specs::Layer::own_of))]
 pub fn own_color(mode: RenderMode, combiner: Combiner, rgba: Rgba) -> Rgba
     ensures { result ≡ own_of mode combiner rgba }
 {
@@ -295,6 +228,7 @@ pub fn own_color(mode: RenderMode, combiner: Combiner, rgba: Rgba) -> Rgba
 }
 
 // The three mixed channels and the pixel's alpha, as bytes.
+#[tactic(auto, unfolding(crate::specs::Blend::bytes_of))]
 fn in_bytes(stands: bool, forced: bool, p: Rgba, a: f32, m: Rgba, b: f32, alpha: f32) -> Rgba8
     ensures { result ≡ bytes_of stands forced p a m b alpha }
 {
@@ -307,6 +241,7 @@ fn in_bytes(stands: bool, forced: bool, p: Rgba, a: f32, m: Rgba, b: f32, alpha:
 }
 
 // What is stored of a pixel of colour rgba, with count samples, over the memory's colour and coverage.
+#[tactic(auto, unfolding(crate::specs::Blend::blend_of))]
 pub fn blend(
     mode: RenderMode,
     combiner: Combiner,
@@ -323,67 +258,44 @@ pub fn blend(
     let m = input(mux.m, combiner, rgba, memory);
     let a = factor_a(mux.a, rgba.a, combiner.fog.a, shade_alpha);
     let b = factor_b(mux.b, a, coverage);
-    let stands = stands_alone(mode, rgba.a, count, Coverage::Known(coverage));
+    let stands = stands_alone(mode, rgba.a, count, Some(coverage));
     in_bytes(stands, mode.force_blend, p, a, m, b, rgba.a)
 }
 
-fn is_known(memory: Memory) -> bool
-    ensures { result ≡ is_known memory }
-{
-    match memory {
-        Memory::Unknown => false,
-        Memory::Known(_) => true,
-    }
-}
-
-pub fn color_or_zeros(memory: Memory) -> Rgba
+// A colour that is not known is passed as zeros.
+pub fn color_or_zeros(memory: Option<Rgba>) -> Rgba
     ensures { result ≡ or_zeros memory }
 {
-    match memory {
-        Memory::Unknown => Rgba {
-            r: 0.0,
-            g: 0.0,
-            b: 0.0,
-            a: 0.0,
-        },
-        Memory::Known(color) => color,
-    }
+    memory.unwrap_or(Rgba {
+        r: 0.0,
+        g: 0.0,
+        b: 0.0,
+        a: 0.0,
+    })
 }
 
-pub fn coverage_or_zero(coverage: Coverage) -> u8
-    ensures { result ≡ or_zero coverage }
-{
-    match coverage {
-        Coverage::Unknown => 0,
-        Coverage::Known(c) => c,
-    }
-}
-
-// `color_known` and `blend` of a pixel that is handed over once.
+// `color_known` and `blend` of a pixel that is handed over once: what is stored of it, if that is known.
+#[tactic(auto, unfolding(crate::specs::Joined::joined))]
 pub fn blend_known(
     mode: RenderMode,
     combiner: Combiner,
     source: Source,
     coverage: Coverage,
-    memory: Memory,
-) -> Joined
+    memory: Option<Rgba>,
+) -> Option<Rgba8>
     ensures { result ≡ joined mode combiner source coverage memory }
 {
     let color = source.color;
-    let known = is_known(memory);
-    if !color_known(mode, color.a, source.count, coverage, known) {
-        return Joined::Fallback;
+    if !color_known(mode, color.a, source.count, coverage, memory.is_some()) {
+        return None;
     }
-    let under = color_or_zeros(memory);
-    let samples = coverage_or_zero(coverage);
-    let bytes = blend(
+    Some(blend(
         mode,
         combiner,
         color,
-        under,
+        color_or_zeros(memory),
         source.shade_alpha,
         source.count,
-        samples,
-    );
-    Joined::Stored(bytes.r, bytes.g, bytes.b, bytes.a)
+        coverage.unwrap_or(0),
+    ))
 }
