@@ -6,8 +6,8 @@ use mathlib.Core.Bool.{Bool, true, false, cond, not, ◌&&◌}
 use native.Mathlib.Omega.{arith}
 use Rattle.state.specs.declared.RenderMode.{RenderMode}
 use Rattle.combiner.specs.declared.Combiner.{Combiner}
-use Rattle.blender.specs.declared.Coverage.{Coverage}
-use Rattle.blender.specs.declared.Coverage.TheVariants.{Unknown, Known}
+use Rattle.blender.specs.Coverage.{Coverage}
+use Rattle.std.specs.Prelude.{None, Some}
 use Rattle.blender.specs.declared.Source.{Source}
 use Rattle.num_float.proofs.Tests.{never}
 use Rattle.frame_pixel.specs.declared.Pixel.{Pixel}
@@ -22,8 +22,8 @@ use Rattle.frame_pixel.specs.Alike.{AlikePixel}
 coverage_same : (mark c d : ℕ) → (coverage_marked mark ≡ true → c ≡ d) → coverage_of mark c ≡ coverage_of mark d
 coverage_same mark c d h = go (coverage_marked mark) h
   where
-    go : (b : Bool) → (b ≡ true → c ≡ d) → cond b (Known c) Unknown ≡ cond b (Known d) Unknown
-    go true h = ap Known (h refl)
+    go : (b : Bool) → (b ≡ true → c ≡ d) → cond b (Some c) None ≡ cond b (Some d) None
+    go true h = ap Some (h refl)
     go false h = refl
 
 module _ {x y : Pixel} (h : AlikePixel x y) where
@@ -68,39 +68,39 @@ module _ (mode : RenderMode) (k : Combiner) (s : Source) (x : Pixel) where
 -- ---- the mark byte that is stored says what it was made of
 color_of_mark : (yes : Bool) (c : Coverage) → color_marked (mark_of yes (not (unknown c))) ≡ yes
 unfolding mark_of
-color_of_mark true Unknown = refl
-color_of_mark true (Known c) = refl
-color_of_mark false Unknown = refl
-color_of_mark false (Known c) = refl
+color_of_mark true None = refl
+color_of_mark true (Some c) = refl
+color_of_mark false None = refl
+color_of_mark false (Some c) = refl
 
 coverage_of_mark : (yes : Bool) (c : Coverage) (old : ℕ) → coverage_of (mark_of yes (not (unknown c))) (coverage_byte c old) ≡ c
 unfolding mark_of
-coverage_of_mark true Unknown old = refl
-coverage_of_mark true (Known c) old = refl
-coverage_of_mark false Unknown old = refl
-coverage_of_mark false (Known c) old = refl
+coverage_of_mark true None old = refl
+coverage_of_mark true (Some c) old = refl
+coverage_of_mark false None old = refl
+coverage_of_mark false (Some c) old = refl
 
 mark_le : (yes : Bool) (c : Coverage) → mark_of yes (not (unknown c)) ≤ highest_mark
 unfolding mark_of
-mark_le true Unknown = omega arith
-mark_le true (Known c) = omega arith
-mark_le false Unknown = omega arith
-mark_le false (Known c) = omega arith
+mark_le true None = omega arith
+mark_le true (Some c) = omega arith
+mark_le false None = omega arith
+mark_le false (Some c) = omega arith
 
 -- a coverage that is marked after a step is not the byte that stood there
 byte_of_mark : (yes : Bool) (c : Coverage) (d e : ℕ) → coverage_marked (mark_of yes (not (unknown c))) ≡ true → coverage_byte c d ≡ coverage_byte c e
 unfolding mark_of
-byte_of_mark true Unknown d e p = never p
-byte_of_mark false Unknown d e p = never p
-byte_of_mark true (Known c) d e p = refl
-byte_of_mark false (Known c) d e p = refl
+byte_of_mark true None d e p = never p
+byte_of_mark false None d e p = never p
+byte_of_mark true (Some c) d e p = refl
+byte_of_mark false (Some c) d e p = refl
 
 -- and one that is not marked is
 byte_stays : (yes : Bool) (c : Coverage) (d : ℕ) → coverage_marked (mark_of yes (not (unknown c))) ≡ false → coverage_byte c d ≡ d
 unfolding mark_of
-byte_stays v Unknown d p = refl
-byte_stays true (Known c) d p = never (sym p)
-byte_stays false (Known c) d p = never (sym p)
+byte_stays v None d p = refl
+byte_stays true (Some c) d p = never (sym p)
+byte_stays false (Some c) d p = never (sym p)
 
 -- ---- a step
 module _ (mode : RenderMode) (k : Combiner) (s : Source) (x : Pixel) where

@@ -6,7 +6,7 @@ use native.Mathlib.Omega.{arith}
 use borrow.Author.Tests.{eq-eqb}
 use lib.Dec.{eqb}
 use Rattle.state.specs.declared.RenderMode.{RenderMode}
-use Rattle.blender.specs.declared.Coverage.TheVariants.{Unknown, Known}
+use Rattle.std.specs.Prelude.{None, Some}
 use Rattle.blender.specs.Coverage.{destination_of}
 use Rattle.num_float.proofs.Tests.{and_false}
 use Rattle.frame_pixel.specs.Rules.{all_eight, fresh_coverage}
@@ -29,9 +29,9 @@ module _ (mode : RenderMode) (n : ℕ) where
   d c = destination_of mode n c
 
   -- one number for all eight is known
-  pub fresh_known : (v : ℕ) → ((c : ℕ) → c ≤ 7 → destination_of mode n c ≡ v) → fresh_coverage mode n ≡ Known v
+  pub fresh_known : (v : ℕ) → ((c : ℕ) → c ≤ 7 → destination_of mode n c ≡ v) → fresh_coverage mode n ≡ Some v
   unfolding fresh_coverage
   fresh_known v same =
       let first = same 0 (omega arith) in
       let all = all_yes (λ c. eqb (d c) (d 0)) (λ c l. eq-eqb (d c) (d 0) (same c l ∙ sym first)) in
-      (λ i. cond (all i) (Known (d 0)) Unknown) ∙ ap Known first
+      (λ i. cond (all i) (Some (d 0)) None) ∙ ap Some first

@@ -11,8 +11,8 @@ use Rattle.num_float.specs.Whole.{byte_of}
 use Rattle.state.specs.declared.RenderMode.{RenderMode}
 use Rattle.combiner.specs.declared.Combiner.{Combiner}
 use Rattle.state.specs.declared.Rgba8.{Rgba8}
-use Rattle.blender.specs.declared.Coverage.{Coverage}
-use Rattle.blender.specs.declared.Coverage.TheVariants.{Unknown, Known}
+use Rattle.blender.specs.Coverage.{Coverage}
+use Rattle.std.specs.Prelude.{None, Some}
 use Rattle.blender.specs.declared.Source.{Source}
 use Rattle.blender.specs.Mux.{mux_of}
 use Rattle.blender.specs.Coverage.{overflow, destination_of}
@@ -33,10 +33,10 @@ module _ (mode : RenderMode) (k : Combiner) (s : Source) (x : Pixel) where
   pub known_certain : known_after mode s x ≡ true → CertainColors mode k s x (colors_after mode k s x)
   known_certain t y q = same_colors mode k s y x q.knows t
 
-  pub covered_certain : (c : ℕ) → coverage_after mode s x ≡ Known c → CertainCoverage mode s x c
+  pub covered_certain : (c : ℕ) → coverage_after mode s x ≡ Some c → CertainCoverage mode s x c
   covered_certain c e y q = same (subst (λ (d : Coverage). Less d (coverage_after mode s y)) e (coverage_too mode k s y x q.knows))
     where
-      same : {d : Coverage} → Less (Known c) d → d ≡ Known c
+      same : {d : Coverage} → Less (Some c) d → d ≡ Some c
       same Less.same = refl
 
 -- ---- a pixel completed by a coverage: any, where its own is not known
@@ -52,29 +52,29 @@ module _ (x : Pixel) where
         low = l;
       }
 
-  any : coverage_at x ≡ Unknown → (c : ℕ) → c ≤ 7 → Completes (with_coverage c) x
-  any u c l = completes c l (λ t. never (ap unknown (sym (λ i. cond (t i) (Known x.coverage) Unknown) ∙ u)))
+  any : coverage_at x ≡ None → (c : ℕ) → c ≤ 7 → Completes (with_coverage c) x
+  any u c l = completes c l (λ t. never (ap unknown (sym (λ i. cond (t i) (Some x.coverage) None) ∙ u)))
 
 -- ---- a coverage
 module _ (mode : RenderMode) (s : Source) (x : Pixel) where
   -- over what x may really be, `destination` answers
-  coverage-of : (y : Pixel) → Completes y x → coverage_after mode s y ≡ Known (destination_of mode s.count y.coverage)
+  coverage-of : (y : Pixel) → Completes y x → coverage_after mode s y ≡ Some (destination_of mode s.count y.coverage)
   unfolding coverage_after rule_f5
   coverage-of y q = ap (rule_f5 mode s.count) (all_covered y q.all)
 
   -- what is certain is known: F5 gives nothing up
-  pub certain_covered : or_zero (coverage_at x) ≤ 7 → (v : ℕ) → CertainCoverage mode s x v → coverage_after mode s x ≡ Known v
+  pub certain_covered : or_zero (coverage_at x) ≤ 7 → (v : ℕ) → CertainCoverage mode s x v → coverage_after mode s x ≡ Some v
   unfolding coverage_after rule_f5
   certain_covered low v certain = go (coverage_marked x.mark) refl
     where
-      go : (b : Bool) → coverage_marked x.mark ≡ b → rule_f5 mode s.count (coverage_at x) ≡ Known v
+      go : (b : Bool) → coverage_marked x.mark ≡ b → rule_f5 mode s.count (coverage_at x) ≡ Some v
       go true e =
-          let at : coverage_at x ≡ Known x.coverage = λ i. cond (e i) (Known x.coverage) Unknown in
+          let at : coverage_at x ≡ Some x.coverage = λ i. cond (e i) (Some x.coverage) None in
           let y = with_coverage x x.coverage in
           let q = completes x x.coverage (subst (λ (c : Coverage). or_zero c ≤ 7) at low) (λ t. refl) in
           ap (rule_f5 mode s.count) at ∙ sym (coverage-of y q) ∙ certain y q
       go false e =
-          let u : coverage_at x ≡ Unknown = λ i. cond (e i) (Known x.coverage) Unknown in
+          let u : coverage_at x ≡ None = λ i. cond (e i) (Some x.coverage) None in
           ap (rule_f5 mode s.count) u
           ∙ fresh_known mode s.count v
           (λ c l. ap or_zero (sym (coverage-of (with_coverage x c) (any x u c l)) ∙ certain (with_coverage x c) (any x u c l)))
@@ -82,13 +82,13 @@ module _ (mode : RenderMode) (s : Source) (x : Pixel) where
 -- ---- a colour in doubt: F1 says yes, and F2 turns that down. It turns on the coverage only by whether the pixel is blended
 module _ (mode : RenderMode) (k : Combiner) (s : Source) (x : Pixel)
     (said : rule_f1 mode s (coverage_at x) (color_marked x.mark) ≡ true) (doubt : rule_f2 mode s (coverage_at x) ≡ true) where
-  no_coverage : coverage_at x ≡ Unknown
+  no_coverage : coverage_at x ≡ None
   unfolding rule_f2
   no_coverage = go (coverage_at x) doubt
     where
-      go : (c : Coverage) → rule_f2 mode s c ≡ true → c ≡ Unknown
-      go Unknown t = refl
-      go (Known c) t = never t
+      go : (c : Coverage) → rule_f2 mode s c ≡ true → c ≡ None
+      go None t = refl
+      go (Some c) t = never t
 
   -- over whatever x may really be, the colours are F3's over any coverage that overflows as its own does
   colors_really :
@@ -101,8 +101,8 @@ module _ (mode : RenderMode) (k : Combiner) (s : Source) (x : Pixel)
       (memory_of (color_marked y.mark) y) (memory_of (color_marked x.mark) x) y.coverage c said (memory_too y x q.knows)
       (less y.coverage) (less c) (alone_same mode s.color.a s.count y.coverage c e))
     where
-      less : (c : ℕ) → Less (coverage_at x) (Known c)
-      less c = subst (λ (d : Coverage). Less d (Known c)) (sym no_coverage) Less.none
+      less : (c : ℕ) → Less (coverage_at x) (Some c)
+      less c = subst (λ (d : Coverage). Less d (Some c)) (sym no_coverage) Less.none
 
   -- it is certain exactly where the least coverage and the full one give the same colours
   pub doubt_certain : (v : Colors) → CertainColors mode k s x v → SameAtEnds mode k s x v
@@ -157,7 +157,7 @@ module _ (mode : RenderMode) (k : Combiner) (s : Source) (x : Pixel)
               green = λ t. never (sym no-color ∙ t);
               blue = λ t. never (sym no-color ∙ t);
               mark2 = λ t. refl;
-              coverage = λ t. λ i. or_zero (cond (t i) (Known x.coverage) Unknown);
+              coverage = λ t. λ i. or_zero (cond (t i) (Some x.coverage) None);
             };
         all = record { mark1 = refl; mark2 = refl };
         low = low;

@@ -9,25 +9,21 @@ use Rattle.state.specs.declared.RenderMode.{RenderMode}
 use Rattle.state.specs.declared.Rgba.{Rgba}
 use Rattle.combiner.specs.declared.Combiner.{Combiner}
 use Rattle.blender.specs.declared.Source.{Source}
-use Rattle.blender.specs.declared.Coverage.TheVariants.{Known}
+use Rattle.std.specs.Prelude.{Option, Some, None, is_some, unwrap_or, option_map}
 use Rattle.blender.specs.Mux.{mux_of}
 use Rattle.state.specs.declared.Rgba8.{Rgba8}
-use Rattle.blender.specs.declared.Joined.{Joined}
-use Rattle.blender.specs.declared.Joined.TheVariants.{Fallback, Stored}
-use Rattle.blender.specs.declared.Memory.{Memory}
 use Rattle.blender.specs.Known.{reject, color_known}
 use Rattle.blender.specs.Blend.{or_zero, blend_of}
-use Rattle.blender.specs.Joined.{is_known, or_zeros, joined}
+use Rattle.blender.specs.Joined.{or_zeros, joined}
 use Rattle.blender.specs.Layer.{layer_of}
 use Rattle.blender.proofs.Solid.{Opaque, opaque_known, alone_blend}
 use Rattle.blender.proofs.Layers.{Layered, layer_known, layer_blend, unshaded_blend}
 use Rattle.frame_pixel.specs.declared.Pixel.{Pixel}
-use Rattle.frame_pixel.specs.declared.Colored.{Colored}
 use Rattle.frame_pixel.specs.declared.Colors.{Colors}
 use Rattle.frame_pixel.specs.Marks.{color_marked, unknown}
-use Rattle.frame_pixel.specs.Rules.{rule_f1, rule_f2, memory_of, rule_f3, rule_f4, coverage_at, known_after, colors_after, coverage_after, assembled, pixel_step}
+use Rattle.frame_pixel.specs.Rules.{rule_f1, rule_f2, memory_of, rule_f3, rule_f4, rule_f5, coverage_at, known_after, colors_after, coverage_after, assembled, pixel_step}
 use Rattle.num_float.proofs.Tests.{never, and_true, and_false}
-use Rattle.frame_pixel.specs.Coloring.{own_colors, over_colors, colored_of}
+use Rattle.frame_pixel.specs.Coloring.{stored_of, own_colors, over_colors, colored_of}
 
 -- colours that are stored where they are known
 pub where_known : (known : Bool) (old : Colors) {told new : Colors} → (known ≡ true → told ≡ new) → cond known told old ≡ cond known new old
@@ -51,7 +47,7 @@ module _ (mode : RenderMode) (k : Combiner) (s : Source) (x : Pixel) (o : Opaque
   unfolding colors_after rule_f3 own_colors
   opaque_colors =
       let c = or_zero (coverage_at x) in
-      let b = alone_blend mode k s.color (memory_of (color_marked x.mark) x) s.shade_alpha s.count c o.own (o.alone s.count (Known c)) in
+      let b = alone_blend mode k s.color (memory_of (color_marked x.mark) x) s.shade_alpha s.count c o.own (o.alone s.count (Some c)) in
       (λ i. cond (opaque_yes i) (rule_f3 mode k s (coverage_at x) (memory_of (color_marked x.mark) x)) (rule_f4 x))
       ∙ (λ i. record { red = b.0 i; green = b.1.0 i; blue = b.1.1 i })
 
@@ -102,73 +98,81 @@ module _ (mode : RenderMode) (k : Combiner) (color : Rgba) (n : ℕ) (x : Pixel)
       (cond (known_after mode (shaded s) x) (record { red = (bytes i).r; green = (bytes i).g; blue = (bytes i).b }) (rule_f4 x))
       (coverage_after mode (shaded s) x) x.coverage
 
--- ---- a pixel that is blended: in doubt, or as `color_known` and `blend` together say
-abbrev stored_in : Joined → Bool
-stored_in Fallback = false
-stored_in (Stored r g b a) = true
-
-abbrev colors_in : Joined → Colors
-colors_in Fallback = record { red = 0; green = 0; blue = 0 }
-colors_in (Stored r g b a) = record { red = r; green = g; blue = b }
+-- ---- the colours after a pixel, if they are then known
+some_where : (b : Bool) (told old : Colors) → cond b (Some told) None ≡ cond b (Some (cond b told old)) None
+some_where true told old = refl
+some_where false told old = refl
 
 module _ (mode : RenderMode) (k : Combiner) (s : Source) (x : Pixel) where
-  abbrev told : Colors
-  told = rule_f3 mode k s (coverage_at x) (memory_of (color_marked x.mark) x)
+  -- put together with what stood there they are a step of the rules
+  pub colored_step :
+      {color : Option Colors} → color ≡ colored_of mode k s x
+      → assembled (is_some color) (unwrap_or color (rule_f4 x)) (rule_f5 mode s.count (coverage_at x)) x.coverage ≡ pixel_step mode k s x
+  unfolding pixel_step colors_after coverage_after
+  colored_step e = rw e (go (known_after mode s x))
+    where
+      told : Colors
+      told = rule_f3 mode k s (coverage_at x) (memory_of (color_marked x.mark) x)
 
-  -- a pixel that is not known after it keeps its bytes
-  no_colored : known_after mode s x ≡ false → ◌≡◌ {A = Colored} (record { known = false; colors = rule_f4 x }) (colored_of mode k s x)
-  unfolding colors_after
-  no_colored h = λ i. record { known = sym h i; colors = cond (sym h i) told (rule_f4 x) }
+      go :
+          (b : Bool)
+          → (let color = cond b (Some (cond b told (rule_f4 x))) None in
+          assembled (is_some color) (unwrap_or color (rule_f4 x)) (rule_f5 mode s.count (coverage_at x)) x.coverage)
+          ≡ assembled b (cond b told (rule_f4 x)) (rule_f5 mode s.count (coverage_at x)) x.coverage
+      go true = refl
+      go false = refl
 
-  pub in_doubt : rule_f2 mode s (coverage_at x) ≡ true → ◌≡◌ {A = Colored} (record { known = false; colors = rule_f4 x }) (colored_of mode k s x)
+  -- an opaque pixel, and one that is layered
+  pub opaque_colored : Opaque mode s.color.a → Some (own_colors mode k s.color) ≡ colored_of mode k s x
+  opaque_colored o = λ i. cond (sym (opaque_yes mode k s x o) i) (Some (sym (opaque_colors mode k s x o) i)) None
+
+  pub layered_colored : Layered mode s.color.a → cond (color_marked x.mark) (Some (over_colors (layer_of mode k s.color) (rule_f4 x))) None ≡ colored_of mode k s x
+  layered_colored o =
+      some_where (color_marked x.mark) (over_colors (layer_of mode k s.color) (rule_f4 x)) (rule_f4 x)
+      ∙ (λ i. cond (sym (layered_known mode k s x o) i) (Some (sym (layered_colors mode k s x o) i)) None)
+
+  -- one that is blended: not known after it, or the bytes of `blend`
+  no_colored : known_after mode s x ≡ false → None ≡ colored_of mode k s x
+  no_colored h = λ i. cond (sym h i) (Some (colors_after mode k s x)) None
+
+  pub in_doubt : rule_f2 mode s (coverage_at x) ≡ true → None ≡ colored_of mode k s x
   unfolding known_after
   in_doubt h = no_colored ((λ i. rule_f1 mode s (coverage_at x) (color_marked x.mark) && not (h i)) ∙ and_false (rule_f1 mode s (coverage_at x) (color_marked x.mark)))
 
-  -- the same by F1, F2 and F3, one by one
-  pub not_known : rule_f1 mode s (coverage_at x) (color_marked x.mark) ≡ false → ◌≡◌ {A = Colored} (record { known = false; colors = rule_f4 x }) (colored_of mode k s x)
+  pub not_known : rule_f1 mode s (coverage_at x) (color_marked x.mark) ≡ false → None ≡ colored_of mode k s x
   unfolding known_after
   not_known h = no_colored (λ i. h i && not (rule_f2 mode s (coverage_at x)))
 
   pub was_known :
       rule_f1 mode s (coverage_at x) (color_marked x.mark) ≡ true → rule_f2 mode s (coverage_at x) ≡ false
-      → ◌≡◌ {A = Colored} (record { known = true; colors = told }) (colored_of mode k s x)
+      → Some (rule_f3 mode k s (coverage_at x) (memory_of (color_marked x.mark) x)) ≡ colored_of mode k s x
   unfolding known_after colors_after
-  was_known h e = λ i. record { known = sym h i && not (sym e i); colors = cond (sym h i && not (sym e i)) told (rule_f4 x) }
+  was_known h e =
+      λ i.
+      let known = sym h i && not (sym e i) in
+      cond known (Some (cond known (rule_f3 mode k s (coverage_at x) (memory_of (color_marked x.mark) x)) (rule_f4 x))) None
 
-  module _ (sure : rule_f2 mode s (coverage_at x) ≡ false) (m : Memory) (known : is_known m ≡ color_marked x.mark) (color : or_zeros m ≡ memory_of (color_marked x.mark) x) where
-    abbrev bytes : Rgba8
-    bytes = blend_of mode k s.color (or_zeros m) s.shade_alpha s.count (or_zero (coverage_at x))
+  -- as `color_known` and `blend` together say, where it is not in doubt
+  pub joined_colored :
+      (m : Option Rgba) → rule_f2 mode s (coverage_at x) ≡ false → is_some m ≡ color_marked x.mark → or_zeros m ≡ memory_of (color_marked x.mark) x
+      → option_map stored_of (joined mode k s (coverage_at x) m) ≡ colored_of mode k s x
+  unfolding joined known_after colors_after rule_f1 rule_f3
+  joined_colored m sure known color =
+      go (color_known mode s.color.a s.count (coverage_at x) (is_some m))
+      ∙ (λ i. cond (asked i) (Some (told i)) None)
+      ∙ some_where (known_after mode s x) (rule_f3 mode k s (coverage_at x) (memory_of (color_marked x.mark) x)) (rule_f4 x)
+    where
+      bytes : Rgba8
+      bytes = blend_of mode k s.color (or_zeros m) s.shade_alpha s.count (or_zero (coverage_at x))
 
-    asked : stored_in (joined mode k s (coverage_at x) m) ≡ known_after mode s x
-    unfolding joined known_after rule_f1
-    asked =
-        go (color_known mode s.color.a s.count (coverage_at x) (is_known m))
-        ∙ sym (and_true (color_known mode s.color.a s.count (coverage_at x) (is_known m)))
-        ∙ (λ i. color_known mode s.color.a s.count (coverage_at x) (known i) && not (sym sure i))
-      where
-        go : (b : Bool) → stored_in (cond b (Stored bytes.r bytes.g bytes.b bytes.a) Fallback) ≡ b
-        go true = refl
-        go false = refl
+      go : (b : Bool) → option_map stored_of (cond b (Some bytes) None) ≡ cond b (Some (stored_of bytes)) None
+      go true = refl
+      go false = refl
 
-    pub fell_back : joined mode k s (coverage_at x) m ≡ Fallback → ◌≡◌ {A = Colored} (record { known = false; colors = rule_f4 x }) (colored_of mode k s x)
-    fell_back e = no_colored (sym asked ∙ ap stored_in e)
+      asked : color_known mode s.color.a s.count (coverage_at x) (is_some m) ≡ known_after mode s x
+      asked =
+          sym (and_true (color_known mode s.color.a s.count (coverage_at x) (is_some m)))
+          ∙ (λ i. color_known mode s.color.a s.count (coverage_at x) (known i) && not (sym sure i))
 
-    -- the bytes of `blend`
-    answered : (b : Bool) → stored_in (cond b (Stored bytes.r bytes.g bytes.b bytes.a) Fallback) ≡ true
-        → colors_in (cond b (Stored bytes.r bytes.g bytes.b bytes.a) Fallback) ≡ record { red = bytes.r; green = bytes.g; blue = bytes.b }
-    answered true h = refl
-    answered false h = never h
-
-    pub was_stored :
-        {r g b a : ℕ} → joined mode k s (coverage_at x) m ≡ Stored r g b a
-        → ◌≡◌ {A = Colored} (record { known = true; colors = record { red = r; green = g; blue = b } }) (colored_of mode k s x)
-    unfolding joined colors_after rule_f3
-    was_stored e =
-        let yes = sym asked ∙ ap stored_in e in
-        let new = ap colors_in (sym e) ∙ answered (color_known mode s.color.a s.count (coverage_at x) (is_known m)) (ap stored_in e) in
-        let same : ◌≡◌ {A = Colors} (record { red = bytes.r; green = bytes.g; blue = bytes.b }) told =
-        λ i.
-        let c = blend_of mode k s.color (color i) s.shade_alpha s.count (or_zero (coverage_at x)) in
-        record { red = c.r; green = c.g; blue = c.b } in
-        let all : ◌≡◌ {A = Colors} _ (cond (known_after mode s x) told (rule_f4 x)) = new ∙ same ∙ (λ i. cond (sym yes i) told (rule_f4 x)) in
-        λ i. record { known = sym yes i; colors = all i }
+      told : stored_of bytes ≡ rule_f3 mode k s (coverage_at x) (memory_of (color_marked x.mark) x)
+      told = λ i. stored_of (blend_of mode k s.color (color i) s.shade_alpha s.count (or_zero (coverage_at x)))

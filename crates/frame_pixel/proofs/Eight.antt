@@ -6,7 +6,7 @@ use mathlib.Core.Bool.{Bool, true, false, cond}
 use borrow.Author.Tests.{eqb-true, eqb-false, ne_eqb}
 use lib.Dec.{eqb}
 use Rattle.state.specs.declared.RenderMode.{RenderMode}
-use Rattle.blender.specs.declared.Coverage.TheVariants.{Unknown, Known}
+use Rattle.std.specs.Prelude.{None, Some}
 use Rattle.blender.specs.Coverage.{destination_of}
 use Rattle.blender.specs.Blend.{or_zero}
 use Rattle.blender.specs.Settled.{settled_of}
@@ -22,23 +22,23 @@ module _ (mode : RenderMode) (n : ℕ) where
   d c = destination_of mode n c
 
   -- two numbers are not
-  pub fresh_unknown : (destination_of mode n 7 ≡ destination_of mode n 0 → ⊥) → fresh_coverage mode n ≡ Unknown
+  pub fresh_unknown : (destination_of mode n 7 ≡ destination_of mode n 0 → ⊥) → fresh_coverage mode n ≡ None
   unfolding fresh_coverage
-  fresh_unknown differ = λ i. cond (last_no (λ c. eqb (d c) (d 0)) (ne_eqb (d 7) (d 0) differ) i) (Known (d 0)) Unknown
+  fresh_unknown differ = λ i. cond (last_no (λ c. eqb (d c) (d 0)) (ne_eqb (d 7) (d 0) differ) i) (Some (d 0)) None
 
   -- so the eight questions come down to two
   fresh_ends : fresh_coverage mode n ≡ one_number (destination_of mode n 7) (destination_of mode n 0)
   fresh_ends = go (eqb (d 7) (d 0)) refl
     where
-      go : (b : Bool) → eqb (d 7) (d 0) ≡ b → fresh_coverage mode n ≡ cond b (Known (d 0)) Unknown
+      go : (b : Bool) → eqb (d 7) (d 0) ≡ b → fresh_coverage mode n ≡ cond b (Some (d 0)) None
       go true e = fresh_known mode n (d 0) (λ c l. ends_same mode n (eqb-true (d 7) (d 0) e) c)
       go false e = fresh_unknown (eqb-false (d 7) (d 0) e)
 
   -- what is known is the number that `destination` gives, whatever memory has
-  pub fresh_same : (v : ℕ) → fresh_coverage mode n ≡ Known v → (c : ℕ) → destination_of mode n c ≡ v
+  pub fresh_same : (v : ℕ) → fresh_coverage mode n ≡ Some v → (c : ℕ) → destination_of mode n c ≡ v
   fresh_same v e c = go (eqb (d 7) (d 0)) refl (sym fresh_ends ∙ e)
     where
-      go : (b : Bool) → eqb (d 7) (d 0) ≡ b → cond b (Known (d 0)) Unknown ≡ Known v → d c ≡ v
+      go : (b : Bool) → eqb (d 7) (d 0) ≡ b → cond b (Some (d 0)) None ≡ Some v → d c ≡ v
       go true t q = ends_same mode n (eqb-true (d 7) (d 0) t) c ∙ ap or_zero q
       go false t q = never (sym (ap unknown q))
 

@@ -8,8 +8,8 @@ use lib.Dec.{eqb}
 use Rattle.state.specs.declared.RenderMode.{RenderMode}
 use Rattle.state.specs.declared.Rgba.{Rgba}
 use Rattle.combiner.specs.declared.Combiner.{Combiner}
-use Rattle.blender.specs.declared.Coverage.{Coverage}
-use Rattle.blender.specs.declared.Coverage.TheVariants.{Unknown, Known}
+use Rattle.blender.specs.Coverage.{Coverage}
+use Rattle.std.specs.Prelude.{None, Some}
 use Rattle.blender.specs.declared.Source.{Source}
 use Rattle.blender.specs.Coverage.{blends, clamp_of, destination_of}
 use Rattle.blender.specs.Known.{alone, color_known}
@@ -53,35 +53,35 @@ unfolding destination_of clamp_of
 full-known mode c h =
     let n = mode.cvg_dst in
     let wrap : (8 + c) % 8 ≡ c = omega arith in
-    (λ i. cond (eqb n 0) (clamp_of (blends mode 8 (Known c)) 8 c) (cond (eqb n 1) (wrap i) (cond (eqb n 2) 7 c)))
-    ∙ picked (eqb n 0) (eqb n 1) (eqb n 2) (fills_of mode) c _ (clamped (blends mode 8 (Known c))) refl (apart n 0 2 (λ e. omega arith))
+    (λ i. cond (eqb n 0) (clamp_of (blends mode 8 (Some c)) 8 c) (cond (eqb n 1) (wrap i) (cond (eqb n 2) 7 c)))
+    ∙ picked (eqb n 0) (eqb n 1) (eqb n 2) (fills_of mode) c _ (clamped (blends mode 8 (Some c))) refl (apart n 0 2 (λ e. omega arith))
     (λ e. λ i. apart n 1 0 (λ e. omega arith) e i || apart n 1 2 (λ e. omega arith) e i)
   where
     clamped : (b : Bool) → cond b (min (8 + c) 7) (8 - 1) ≡ 7
     clamped true = omega arith
     clamped false = refl
 
-full_fresh : (mode : RenderMode) → fresh_coverage mode 8 ≡ cond (fills_of mode) (Known 7) Unknown
+full_fresh : (mode : RenderMode) → fresh_coverage mode 8 ≡ cond (fills_of mode) (Some 7) None
 full_fresh mode = go (fills_of mode) (full-known mode)
   where
-    go : (b : Bool) → ((c : ℕ) → c ≤ 7 → destination_of mode 8 c ≡ cond b 7 c) → fresh_coverage mode 8 ≡ cond b (Known 7) Unknown
+    go : (b : Bool) → ((c : ℕ) → c ≤ 7 → destination_of mode 8 c ≡ cond b 7 c) → fresh_coverage mode 8 ≡ cond b (Some 7) None
     go true h = fresh_known mode 8 7 h
     go false h = fresh_unknown mode 8 (λ e. let same : ◌≡◌ {A = ℕ} 7 0 = sym (h 7 (omega arith)) ∙ e ∙ h 0 (omega arith) in omega arith)
 
-fills_asked : (mode : RenderMode) → is_full (rule_f5 mode 8 Unknown) ≡ fills_of mode
+fills_asked : (mode : RenderMode) → is_full (rule_f5 mode 8 None) ≡ fills_of mode
 unfolding rule_f5
 fills_asked mode = ap is_full (full_fresh mode) ∙ go (fills_of mode)
   where
-    go : (b : Bool) → is_full (cond b (Known 7) Unknown) ≡ b
+    go : (b : Bool) → is_full (cond b (Some 7) None) ≡ b
     go true = refl
     go false = refl
 
-full_rule : (mode : RenderMode) (c : Coverage) → or_zero c ≤ 7 → full_coverage (is_full (rule_f5 mode 8 Unknown)) c ≡ rule_f5 mode 8 c
+full_rule : (mode : RenderMode) (c : Coverage) → or_zero c ≤ 7 → full_coverage (is_full (rule_f5 mode 8 None)) c ≡ rule_f5 mode 8 c
 unfolding rule_f5
-full_rule mode Unknown h = (λ i. cond (fills_asked mode i) (Known 7) Unknown) ∙ sym (full_fresh mode)
-full_rule mode (Known c) h = (λ i. cond (fills_asked mode i) (Known 7) (Known c)) ∙ go (fills_of mode) ∙ ap Known (sym (full-known mode c h))
+full_rule mode None h = (λ i. cond (fills_asked mode i) (Some 7) None) ∙ sym (full_fresh mode)
+full_rule mode (Some c) h = (λ i. cond (fills_asked mode i) (Some 7) (Some c)) ∙ go (fills_of mode) ∙ ap Some (sym (full-known mode c h))
   where
-    go : (b : Bool) → cond b (Known 7) (Known c) ≡ Known (cond b 7 c)
+    go : (b : Bool) → cond b (Some 7) (Some c) ≡ Some (cond b 7 c)
     go true = refl
     go false = refl
 
@@ -91,20 +91,20 @@ module _ (mode : RenderMode) (k : Combiner) (s : Source) (x : Pixel) (n : s.coun
   module _ (o : Steady mode) (h : opaque_of mode s.color.a ≡ false) where
     steady_verdict :
         (m marked : Bool) (c : ℕ)
-        → (rule_f1 mode s (cond m (Known c) Unknown) marked && not (rule_f2 mode s (cond m (Known c) Unknown))) ≡ m
+        → (rule_f1 mode s (cond m (Some c) None) marked && not (rule_f2 mode s (cond m (Some c) None))) ≡ m
     unfolding rule_f1 rule_f2
-    steady_verdict true marked c = λ i. ((λ j. color_known mode s.color.a (n j) (Known c) marked) ∙ steady_known o s.color.a c marked) i && true
+    steady_verdict true marked c = λ i. ((λ j. color_known mode s.color.a (n j) (Some c) marked) ∙ steady_known o s.color.a c marked) i && true
     steady_verdict false marked c =
-        (λ i. color_known mode s.color.a s.count Unknown marked && not (steady_doubt o s.color.a h i)) ∙ and_false (color_known mode s.color.a s.count Unknown marked)
+        (λ i. color_known mode s.color.a s.count None marked && not (steady_doubt o s.color.a h i)) ∙ and_false (color_known mode s.color.a s.count None marked)
 
     steady_yes : known_after mode s x ≡ coverage_marked x.mark
     unfolding known_after
     steady_yes = steady_verdict (coverage_marked x.mark) (color_marked x.mark) x.coverage
 
-    steady_stored : (m : Bool) (c : ℕ) (memory : Rgba) → m ≡ true → rule_f3 mode k s (cond m (Known c) Unknown) memory ≡ own_colors mode k s.color
+    steady_stored : (m : Bool) (c : ℕ) (memory : Rgba) → m ≡ true → rule_f3 mode k s (cond m (Some c) None) memory ≡ own_colors mode k s.color
     unfolding rule_f3 own_colors
     steady_stored true c memory e =
-        let alone = (λ i. alone mode s.color.a (n i) (Known c)) ∙ steady_alone o s.color.a c in
+        let alone = (λ i. alone mode s.color.a (n i) (Some c)) ∙ steady_alone o s.color.a c in
         let b = alone_blend mode k s.color memory s.shade_alpha s.count c o.own alone in
         λ i. record { red = b.0 i; green = b.1.0 i; blue = b.1.1 i }
     steady_stored false c memory e = never e

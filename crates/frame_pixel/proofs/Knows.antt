@@ -10,8 +10,8 @@ use Rattle.state.specs.declared.RenderMode.{RenderMode}
 use Rattle.state.specs.declared.Rgba.{Rgba}
 use Rattle.combiner.specs.declared.Combiner.{Combiner}
 use Rattle.state.specs.declared.Rgba8.{Rgba8}
-use Rattle.blender.specs.declared.Coverage.{Coverage}
-use Rattle.blender.specs.declared.Coverage.TheVariants.{Unknown, Known}
+use Rattle.blender.specs.Coverage.{Coverage}
+use Rattle.std.specs.Prelude.{None, Some}
 use Rattle.blender.specs.declared.Source.{Source}
 use Rattle.blender.specs.Coverage.{overflow, blends, destination_of}
 use Rattle.blender.specs.Known.{reject, alone}
@@ -28,19 +28,19 @@ use Rattle.frame_pixel.proofs.Eight.{fresh_same}
 use Rattle.frame_pixel.proofs.Alike.{color_after, covered_after, colors-after}
 
 -- ---- what is known of two coverages, by their marks and bytes
-less_of : (a b : Bool) (c d : ℕ) → (a ≡ true → b ≡ true) → (a ≡ true → d ≡ c) → Less (cond a (Known c) Unknown) (cond b (Known d) Unknown)
+less_of : (a b : Bool) (c d : ℕ) → (a ≡ true → b ≡ true) → (a ≡ true → d ≡ c) → Less (cond a (Some c) None) (cond b (Some d) None)
 less_of false b c d p q = Less.none
 less_of true false c d p q = never (p refl)
-less_of true true c d p q = subst (λ (k : ℕ). Less (Known c) (Known k)) (sym (q refl)) Less.same
+less_of true true c d p q = subst (λ (k : ℕ). Less (Some c) (Some k)) (sym (q refl)) Less.same
 
-of_less : (a b : Bool) (c d : ℕ) → Less (cond a (Known c) Unknown) (cond b (Known d) Unknown) → a ≡ true → (b ≡ true) × (d ≡ c)
+of_less : (a b : Bool) (c d : ℕ) → Less (cond a (Some c) None) (cond b (Some d) None) → a ≡ true → (b ≡ true) × (d ≡ c)
 of_less false b c d l t = never t
 of_less true false c d l t = elim l [ ]
 of_less true true c d Less.same t = (refl, refl)
 
 less_self : (c : Coverage) → Less c c
-less_self Unknown = Less.none
-less_self (Known c) = Less.same
+less_self None = Less.none
+less_self (Some c) = Less.same
 
 -- ---- F5
 rule_less : (mode : RenderMode) (n : ℕ) {c d : Coverage} → Less c d → Less (rule_f5 mode n c) (rule_f5 mode n d)
@@ -48,13 +48,13 @@ unfolding rule_f5
 rule_less mode n Less.same = Less.same
 rule_less mode n (Less.none {d}) = go d
   where
-    same : (c : ℕ) (f : Coverage) → fresh_coverage mode n ≡ f → Less f (Known (destination_of mode n c))
-    same c Unknown e = Less.none
-    same c (Known v) e = subst (λ (k : ℕ). Less (Known v) (Known k)) (sym (fresh_same mode n v e c)) Less.same
+    same : (c : ℕ) (f : Coverage) → fresh_coverage mode n ≡ f → Less f (Some (destination_of mode n c))
+    same c None e = Less.none
+    same c (Some v) e = subst (λ (k : ℕ). Less (Some v) (Some k)) (sym (fresh_same mode n v e c)) Less.same
 
     go : (d : Coverage) → Less (fresh_coverage mode n) (rule_f5 mode n d)
-    go Unknown = less_self (fresh_coverage mode n)
-    go (Known c) = same c (fresh_coverage mode n) refl
+    go None = less_self (fresh_coverage mode n)
+    go (Some c) = same c (fresh_coverage mode n) refl
 
 -- what F5 makes known is what `destination` answers over some coverage, and so has three bits
 rule_le : (mode : RenderMode) (n : ℕ) (c : Coverage) → 1 ≤ n → n ≤ 8 → or_zero c ≤ 7 → or_zero (rule_f5 mode n c) ≤ 7
@@ -71,14 +71,14 @@ unfolding rule_f2
 doubt_less mode s (Less.none {d}) t = go d
   where
     go : (d : Coverage) → rule_f2 mode s d ≡ false
-    go Unknown = t
-    go (Known c) = refl
+    go None = t
+    go (Some c) = refl
 doubt_less mode s Less.same t = refl
 
 -- where F2 has no doubt, the pixel stands alone over every coverage that the memory may have, or over none
 sure_alone :
-    (mode : RenderMode) (s : Source) (n : ℕ) {c : Coverage} {i j : ℕ} → rule_f2 mode s c ≡ false → Less c (Known i) → Less c (Known j)
-    → alone mode s.color.a n (Known i) ≡ alone mode s.color.a n (Known j)
+    (mode : RenderMode) (s : Source) (n : ℕ) {c : Coverage} {i j : ℕ} → rule_f2 mode s c ≡ false → Less c (Some i) → Less c (Some j)
+    → alone mode s.color.a n (Some i) ≡ alone mode s.color.a n (Some j)
 unfolding rule_f2 alone blends
 sure_alone mode s n t Less.same Less.same = refl
 sure_alone mode s n {i = i} {j = j} t Less.none Less.none =
@@ -175,8 +175,8 @@ coverage-after mode k s x p q h = rw (covered_after mode k s x) (rule_le mode s.
 
 -- ---- a pixel of which everything is known
 -- its coverage
-pub all_covered : (x : Pixel) → AllKnownPixel x → coverage_at x ≡ Known x.coverage
-all_covered x h = λ i. cond (h.mark2 i) (Known x.coverage) Unknown
+pub all_covered : (x : Pixel) → AllKnownPixel x → coverage_at x ≡ Some x.coverage
+all_covered x h = λ i. cond (h.mark2 i) (Some x.coverage) None
 
 module _ (mode : RenderMode) (k : Combiner) (s : Source) (x : Pixel) (h : AllKnownPixel x) where
   -- F1 says yes, and F2 has no doubt
@@ -187,7 +187,7 @@ module _ (mode : RenderMode) (k : Combiner) (s : Source) (x : Pixel) (h : AllKno
       ∙ (λ i. known_all mode s.color.a s.count x.coverage i && true)
 
   -- so its colours are F3's over its own coverage
-  pub all_colors : colors_after mode k s x ≡ rule_f3 mode k s (Known x.coverage) (memory_of (color_marked x.mark) x)
+  pub all_colors : colors_after mode k s x ≡ rule_f3 mode k s (Some x.coverage) (memory_of (color_marked x.mark) x)
   unfolding colors_after
   all_colors = λ i. cond (all_known_lem i) (rule_f3 mode k s (all_covered x h i) (memory_of (color_marked x.mark) x)) (rule_f4 x)
 

@@ -1,9 +1,8 @@
 -- To be believed. What of an emitted pixel is certain all the same: equal whatever the bytes that are not known really are. Definitions only. Source: docs/RULES.md,
 -- What is known is true.
-use Rattle.std.specs.Prelude.{ℕ, ◌≤◌, ◌≡◌}
+use Rattle.std.specs.Prelude.{ℕ, ◌≤◌, ◌≡◌, Some}
 use Rattle.state.specs.declared.RenderMode.{RenderMode}
 use Rattle.combiner.specs.declared.Combiner.{Combiner}
-use Rattle.blender.specs.declared.Coverage.TheVariants.{Known}
 use Rattle.blender.specs.declared.Source.{Source}
 use Rattle.frame_pixel.specs.declared.Pixel.{Pixel}
 use Rattle.frame_pixel.specs.declared.Colors.{Colors}
@@ -23,11 +22,11 @@ CertainColors mode k s x colors = (y : Pixel) → Completes y x → colors_after
 
 -- and so is the coverage
 abbrev pub CertainCoverage : RenderMode → Source → Pixel → ℕ → Type 0
-CertainCoverage mode s x c = (y : Pixel) → Completes y x → coverage_after mode s y ≡ Known c
+CertainCoverage mode s x c = (y : Pixel) → Completes y x → coverage_after mode s y ≡ Some c
 
 -- F3's colours over this memory coverage
 abbrev pub colors_over : RenderMode → Combiner → Source → Pixel → ℕ → Colors
-colors_over mode k s x c = rule_f3 mode k s (Known c) (memory_of (color_marked x.mark) x)
+colors_over mode k s x c = rule_f3 mode k s (Some c) (memory_of (color_marked x.mark) x)
 
 -- F3's colours over memory coverage 0 and over 7 are both these
 abbrev pub SameAtEnds : RenderMode → Combiner → Source → Pixel → Colors → Type 0

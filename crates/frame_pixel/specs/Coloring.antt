@@ -1,21 +1,25 @@
 -- Inner vocabulary. What is known of a pixel's colour ahead of the memory: one that is opaque, of whose colour the memory has no part, and one that is layered,
 -- whose colour is a sum with the memory's. Definitions only, for contracts of inner functions; that they are what the rules give is proofs/Colorings.
-use Rattle.std.specs.Prelude.{ℕ, ◌≡◌, true, Float}
+use Rattle.std.specs.Prelude.{ℕ, ◌≡◌, true, cond, Float, Option, Some, None}
 use Rattle.std.specs.Float.{binary32}
 use Rattle.std.specs.Float.Ieee.{add, mul}
 use Rattle.num_float.specs.Whole.{byte_of}
 use Rattle.state.specs.declared.RenderMode.{RenderMode}
 use Rattle.state.specs.declared.Rgba.{Rgba}
+use Rattle.state.specs.declared.Rgba8.{Rgba8}
 use Rattle.combiner.specs.declared.Combiner.{Combiner}
 use Rattle.blender.specs.declared.Source.{Source}
 use Rattle.blender.specs.declared.layer.Layer.{Layer}
 use Rattle.blender.specs.Layer.{own_of, layered_of, layer_of, opaque_of}
 use Rattle.frame_pixel.specs.declared.Pixel.{Pixel}
-use Rattle.frame_pixel.specs.declared.Colored.{Colored}
 use Rattle.frame_pixel.specs.declared.Coloring.{Coloring}
 use Rattle.frame_pixel.specs.declared.Coloring.TheVariants.{Opaque, Layered, Blended}
 use Rattle.frame_pixel.specs.declared.Colors.{Colors}
 use Rattle.frame_pixel.specs.Rules.{unit, known_after, colors_after}
+
+-- what a frame stores of a colour in bytes: no alpha
+abbrev pub stored_of : Rgba8 → Colors
+stored_of bytes = record { red = bytes.r; green = bytes.g; blue = bytes.b }
 
 -- the bytes of a pixel's own colour
 abbrev pub colors_of : Rgba → Colors
@@ -37,6 +41,6 @@ ColoringOf mode k color (Opaque colors) = (opaque_of mode color.a ≡ true) × (
 ColoringOf mode k color (Layered l) = (layered_of mode color.a ≡ true) × (l ≡ layer_of mode k color)
 ColoringOf mode k color Blended = Unit
 
--- what F1 to F4 say of a pixel's place
-abbrev pub colored_of : RenderMode → Combiner → Source → Pixel → Colored
-colored_of mode k s x = record { known = known_after mode s x; colors = colors_after mode k s x }
+-- the colours after an emitted pixel, if they are then known
+abbrev pub colored_of : RenderMode → Combiner → Source → Pixel → Option Colors
+colored_of mode k s x = cond (known_after mode s x) (Some (colors_after mode k s x)) None

@@ -1,11 +1,10 @@
 -- Inner vocabulary. A pixel with all eight samples of a colour that is worked out ahead: what it does turns on the mark at its place, and on the memory's colour where it is
 -- layered. Definitions only; that it is what the rules give is proofs/Fulls.
-use Rattle.std.specs.Prelude.{◌≡◌, Bool, true, false, cond, ◌||◌, eqb}
+use Rattle.std.specs.Prelude.{◌≡◌, Bool, true, false, cond, ◌||◌, eqb, None, Some}
 use Rattle.state.specs.declared.RenderMode.{RenderMode}
 use Rattle.state.specs.declared.Rgba.{Rgba}
 use Rattle.combiner.specs.declared.Combiner.{Combiner}
-use Rattle.blender.specs.declared.Coverage.{Coverage}
-use Rattle.blender.specs.declared.Coverage.TheVariants.{Unknown, Known}
+use Rattle.blender.specs.Coverage.{Coverage}
 use Rattle.blender.specs.Layer.{layered_of, steady_of, layer_of, opaque_of}
 use Rattle.frame_pixel.specs.declared.Pixel.{Pixel}
 use Rattle.frame_pixel.specs.declared.Colors.{Colors}
@@ -16,8 +15,8 @@ use Rattle.frame_pixel.specs.Coloring.{own_colors, over_colors}
 
 -- F5 makes it 7
 abbrev pub is_full : Coverage → Bool
-is_full Unknown = false
-is_full (Known c) = eqb c 7
+is_full None = false
+is_full (Some c) = eqb c 7
 
 -- what is worked out ahead for the full pixels of a colour
 pub record FullOf (mode : RenderMode) (k : Combiner) (color : Rgba) (full : Full) : Type 0 where
@@ -26,7 +25,7 @@ pub record FullOf (mode : RenderMode) (k : Combiner) (color : Rgba) (full : Full
   pub layer : full.layer ≡ layer_of mode k color
   pub sure : full.sure ≡ opaque_of mode color.a
   -- F5 makes 7 of a coverage that is not known; then it makes 7 of every other, too, and else it leaves every one
-  pub fills : full.fills ≡ is_full (rule_f5 mode 8 Unknown)
+  pub fills : full.fills ≡ is_full (rule_f5 mode 8 None)
   pub sets : full.sets ≡ mark_of false full.fills
 
 -- that is enough for a full pixel: it is layered, or it is of its own colour wherever the coverage is known
@@ -41,7 +40,7 @@ abbrev pub full_colors : Full → Pixel → Colors
 full_colors full x = cond full.layered (over_colors full.layer (rule_f4 x)) full.own
 
 abbrev pub full_coverage : Bool → Coverage → Coverage
-full_coverage fills coverage = cond fills (Known 7) coverage
+full_coverage fills coverage = cond fills (Some 7) coverage
 
 -- a full pixel whose colours are stored where they are known
 unfoldable pub full_with : Bool → Bool → Colors → Pixel → Pixel

@@ -1,8 +1,7 @@
 -- To be believed. Mark bytes: mark 1 says that a pixel's colour is known, mark 2 that its coverage is; a mark byte is their sum. Definitions only.
 -- Source: docs/RULES.md, The frame. Bytes above 3 are read the same way: odd, and the remainder by 4.
-use Rattle.std.specs.Prelude.{ℕ, ◌+◌, ◌%◌, Bool, true, false, cond, leb, eqb}
-use Rattle.blender.specs.declared.Coverage.{Coverage}
-use Rattle.blender.specs.declared.Coverage.TheVariants.{Unknown, Known}
+use Rattle.std.specs.Prelude.{ℕ, ◌+◌, ◌%◌, Bool, true, false, cond, leb, eqb, None, Some}
+use Rattle.blender.specs.Coverage.{Coverage}
 
 -- the highest mark byte: number 3 turns a frame with a higher one away
 abbrev pub highest_mark : ℕ
@@ -16,11 +15,11 @@ coverage_marked mark = leb 2 (mark % 4)
 
 -- what is known of a coverage byte
 abbrev pub coverage_of : ℕ → ℕ → Coverage
-coverage_of mark coverage = cond (coverage_marked mark) (Known coverage) Unknown
+coverage_of mark coverage = cond (coverage_marked mark) (Some coverage) None
 
 abbrev pub unknown : Coverage → Bool
-unknown Unknown = true
-unknown (Known c) = false
+unknown None = true
+unknown (Some c) = false
 
 -- the mark byte of a colour and of a coverage, each known or not
 unfoldable pub mark_of : Bool → Bool → ℕ

@@ -1,6 +1,6 @@
 -- To be believed. Rules F1 to F5 (docs/RULES.md): what one emitted pixel does to the five bytes of its place in the frame, all on the old bytes.
 -- Definitions only. F1, F3 and F5 rest on `color_known`, `blend` and `destination` of the Rust, whose definitions are crate blender's.
-use Rattle.std.specs.Prelude.{ℕ, Bool, cond, not, ◌&&◌, pos, eqb, Float}
+use Rattle.std.specs.Prelude.{ℕ, Bool, cond, not, ◌&&◌, pos, eqb, Float, None, Some}
 use Rattle.std.specs.Float.{binary32}
 use Rattle.std.specs.Float.Ieee.{of_int, div}
 use Rattle.num_float.specs.Color.{f0}
@@ -8,8 +8,7 @@ use Rattle.num_float.specs.Whole.{f255}
 use Rattle.state.specs.declared.RenderMode.{RenderMode}
 use Rattle.state.specs.declared.Rgba.{Rgba}
 use Rattle.combiner.specs.declared.Combiner.{Combiner}
-use Rattle.blender.specs.declared.Coverage.{Coverage}
-use Rattle.blender.specs.declared.Coverage.TheVariants.{Unknown, Known}
+use Rattle.blender.specs.Coverage.{Coverage}
 use Rattle.blender.specs.Coverage.{destination_of}
 use Rattle.blender.specs.Known.{reject, color_known}
 use Rattle.blender.specs.Blend.{or_zero, blend_of}
@@ -54,17 +53,17 @@ all_eight asked = asked 0 && asked 1 && asked 2 && asked 3 && asked 4 && asked 5
 unfoldable pub fresh_coverage : RenderMode → ℕ → Coverage
 fresh_coverage mode n =
     let number = destination_of mode n 0 in
-    cond (all_eight (λ c. eqb (destination_of mode n c) number)) (Known number) Unknown
+    cond (all_eight (λ c. eqb (destination_of mode n c) number)) (Some number) None
 
 -- F5: a marked coverage becomes `destination`'s answer
 unfoldable pub rule_f5 : RenderMode → ℕ → Coverage → Coverage
-rule_f5 mode n (Known c) = Known (destination_of mode n c)
-rule_f5 mode n Unknown = fresh_coverage mode n
+rule_f5 mode n (Some c) = Some (destination_of mode n c)
+rule_f5 mode n None = fresh_coverage mode n
 
 -- an unmarked coverage byte stays
 abbrev pub coverage_byte : Coverage → ℕ → ℕ
-coverage_byte Unknown old = old
-coverage_byte (Known c) old = c
+coverage_byte None old = old
+coverage_byte (Some c) old = c
 
 -- ---- what the rules say of a pixel's place
 

@@ -32,10 +32,7 @@ pub struct Full {
 fn is_full(coverage: Coverage) -> bool
     ensures { result ≡ is_full coverage }
 {
-    match coverage {
-        Coverage::Unknown => false,
-        Coverage::Known(c) => c == FULL_COVERAGE,
-    }
+    coverage == Some(FULL_COVERAGE)
 }
 
 // What the full pixels of a colour need.
@@ -46,8 +43,7 @@ pub fn full_of(mode: RenderMode, combiner: Combiner, color: Rgba) -> Full
     let own = crate::own_colors(mode, combiner, color);
     let layer = blender::layer::layer_of(mode, combiner, color);
     let sure = blender::opaque(mode, color.a);
-    let coverage = next_coverage(mode, ALL, Coverage::Unknown);
-    let fills = is_full(coverage);
+    let fills = is_full(next_coverage(mode, ALL, None));
     let sets = crate::mark_of(false, fills);
     Full {
         layered,

@@ -2,18 +2,18 @@
 // allows; an unmarked one is only ever kept.
 #![tactic(auto)]
 
-ghost use Rattle.std.specs.Prelude.{◌≡◌, false, cond, ◌≤◌};
+ghost use Rattle.std.specs.Prelude.{◌≡◌, cond, ◌≤◌, Some, None, is_some, unwrap_or};
 ghost use Rattle.blender.specs.Blend.{or_zero};
-ghost use Rattle.blender.specs.Joined.{is_known, or_zeros};
+ghost use Rattle.blender.specs.Joined.{or_zeros};
 ghost use Rattle.blender.specs.Settled.{full_from, settled_clamp};
-ghost use Rattle.frame_pixel.specs.Marks.{color_marked, coverage_marked, coverage_of, unknown, mark_of};
-ghost use Rattle.frame_pixel.specs.Rules.{rule_f2, unit, memory_of, rule_f4, fresh_coverage, rule_f5, coverage_byte, coverage_at, assembled, pixel_step};
-ghost use Rattle.frame_pixel.specs.Coloring.{own_colors, over_byte, over_colors, ColoringOf, colored_of};
+ghost use Rattle.frame_pixel.specs.Marks.{color_marked, coverage_marked, mark_of};
+ghost use Rattle.frame_pixel.specs.Rules.{rule_f2, unit, memory_of, rule_f4, fresh_coverage, rule_f5, coverage_at, assembled, pixel_step};
+ghost use Rattle.frame_pixel.specs.Coloring.{stored_of, own_colors, over_byte, over_colors, ColoringOf, colored_of};
 
 use blender::layer::Layer;
-use blender::{Coverage, Joined, Memory, Source};
+use blender::{Coverage, Source};
 use combiner::Combiner;
-use state::{RenderMode, Rgba};
+use state::{RenderMode, Rgba, Rgba8};
 
 pub mod full; // pixels with all eight samples
 
@@ -43,11 +43,17 @@ pub enum Coloring {
     Blended,
 }
 
-// What F1 to F4 say: whether the colour is then known, and the colour bytes then.
-#[derive(Clone, Copy)]
-pub struct Colored {
-    pub known: bool,
-    pub colors: Colors,
+// The first three bytes of `blend`.
+impl From<Rgba8> for Colors {
+    ghost from_gives = { λ bytes colors. colors ≡ stored_of bytes };
+
+    fn from(bytes: Rgba8) -> Colors {
+        Colors {
+            red: bytes.r,
+            green: bytes.g,
+            blue: bytes.b,
+        }
+    }
 }
 
 // Mark 1.
@@ -65,54 +71,29 @@ pub fn coverage_marked(mark: u8) -> bool
 }
 
 // The mark byte of a colour and a coverage.
+#[tactic(auto, unfolding(crate::specs::Marks::mark_of))]
 pub fn mark_of(known: bool, covered: bool) -> u8
     ensures { result ≡ mark_of known covered }
 {
-    if known {
-        if covered {
-            return 3;
-        }
-        return 1;
-    }
-    if covered {
-        return 2;
-    }
-    0
+    u8::from(known) + 2 * u8::from(covered)
 }
 
 // The coverage, where it is marked.
-fn coverage_of(mark: u8, coverage: u8) -> Coverage
-    ensures { result ≡ coverage_of mark coverage }
+fn coverage_at(bytes: Pixel) -> Coverage
+    ensures { result ≡ coverage_at bytes }
 {
-    if coverage_marked(mark) {
-        return Coverage::Known(coverage);
-    }
-    Coverage::Unknown
-}
-
-fn is_unknown(coverage: Coverage) -> bool
-    ensures { result ≡ unknown coverage }
-{
-    match coverage {
-        Coverage::Unknown => true,
-        Coverage::Known(_) => false,
-    }
+    coverage_marked(bytes.mark).then_some(bytes.coverage)
 }
 
 // F2.
+#[tactic(auto, unfolding(crate::specs::Rules::rule_f2))]
 fn in_doubt(mode: RenderMode, source: Source, coverage: Coverage) -> bool
     ensures { result ≡ rule_f2 mode source coverage }
 {
-    if is_unknown(coverage) {
-        if mode.antialias {
-            if mode.force_blend {
-                return false;
-            }
-            return !blender::rejects(mode, source.color.a);
-        }
-        return false;
-    }
-    false
+    coverage.is_none()
+        && mode.antialias
+        && !mode.force_blend
+        && !blender::rejects(mode, source.color.a)
 }
 
 fn unit_of(byte: u8) -> f32
@@ -122,20 +103,22 @@ fn unit_of(byte: u8) -> f32
 }
 
 // The colour bytes are looked at only if they are marked.
-fn memory_of(marked: bool, bytes: Pixel) -> Memory
-    ensures { (is_known result ≡ marked) × (or_zeros result ≡ memory_of marked bytes) }
+#[tactic(auto, unfolding(crate::specs::Rules::memory_of))]
+fn memory_of(marked: bool, bytes: Pixel) -> Option<Rgba>
+    ensures { (is_some result ≡ marked) × (or_zeros result ≡ memory_of marked bytes) }
 {
     if marked {
-        return Memory::Known(Rgba {
+        return Some(Rgba {
             r: unit_of(bytes.red),
             g: unit_of(bytes.green),
             b: unit_of(bytes.blue),
             a: 0.0,
         });
     }
-    Memory::Unknown
+    None
 }
 
+// F4.
 fn colors_of(bytes: Pixel) -> Colors
     ensures { result ≡ rule_f4 bytes }
 {
@@ -146,79 +129,46 @@ fn colors_of(bytes: Pixel) -> Colors
     }
 }
 
-// F4.
-fn kept(bytes: Pixel) -> Colored
-    ensures { result ≡ record { known = false; colors = rule_f4 bytes } }
-{
-    Colored {
-        known: false,
-        colors: colors_of(bytes),
-    }
-}
-
-// F1 to F4 of a pixel that is blended.
-fn blended(
-    mode: RenderMode,
-    combiner: Combiner,
-    source: Source,
-    coverage: Coverage,
-    bytes: Pixel,
-) -> Colored
-    requires { coverage ≡ coverage_at bytes }
+// F1 to F3 of a pixel that is blended: its colour, if it is then known.
+fn blended(mode: RenderMode, combiner: Combiner, source: Source, bytes: Pixel) -> Option<Colors>
     ensures { result ≡ colored_of mode combiner source bytes }
 {
+    let coverage = coverage_at(bytes);
     if in_doubt(mode, source, coverage) {
-        return kept(bytes);
+        return None;
     }
     let memory = memory_of(color_marked(bytes.mark), bytes);
-    match blender::blend_known(mode, combiner, source, coverage, memory) {
-        Joined::Fallback => kept(bytes),
-        Joined::Stored(red, green, blue, _) => Colored {
-            known: true,
-            colors: Colors { red, green, blue },
-        },
-    }
+    let stored = blender::blend_known(mode, combiner, source, coverage, memory)?;
+    Some(Colors::from(stored))
 }
 
-// F1 to F4, one by one.
+// F1 to F3, one by one.
 fn color_by_rules(
     mode: RenderMode,
     combiner: Combiner,
     source: Source,
-    coverage: Coverage,
     bytes: Pixel,
-) -> Colored
-    requires { coverage ≡ coverage_at bytes }
+) -> Option<Colors>
     ensures { result ≡ colored_of mode combiner source bytes }
 {
+    let coverage = coverage_at(bytes);
     let color = source.color;
     let marked = color_marked(bytes.mark);
-    if !blender::color_known(mode, color.a, source.count, coverage, marked) {
-        return kept(bytes);
-    }
     let doubt = in_doubt(mode, source, coverage);
-    if doubt {
-        return kept(bytes);
+    if doubt || !blender::color_known(mode, color.a, source.count, coverage, marked) {
+        return None;
     }
     let memory = blender::color_or_zeros(memory_of(marked, bytes));
-    let stored = blender::coverage_or_zero(coverage);
-    let new = blender::blend(
+    let stored = blender::blend(
         mode,
         combiner,
         color,
         memory,
         source.shade_alpha,
         source.count,
-        stored,
+        coverage.unwrap_or(0),
     );
-    Colored {
-        known: true,
-        colors: Colors {
-            red: new.r,
-            green: new.g,
-            blue: new.b,
-        },
-    }
+    Some(Colors::from(stored))
 }
 
 // One channel of a layer over the memory's.
@@ -229,6 +179,7 @@ fn over(part: f32, share: f32, byte: u8) -> u8
 }
 
 // The bytes of a layered pixel over the memory's.
+#[tactic(auto, unfolding(crate::specs::Coloring::over_colors))]
 pub fn over_colors(layer: Layer, memory: Colors) -> Colors
     ensures { result ≡ over_colors layer memory }
 {
@@ -239,39 +190,31 @@ pub fn over_colors(layer: Layer, memory: Colors) -> Colors
     }
 }
 
-// F1 to F4 of a pixel that is laid over the memory's colour: it is known where that is.
-fn laid(layer: Layer, bytes: Pixel) -> Colored
-    ensures { (result.known ≡ color_marked bytes.mark) × (result.colors ≡ cond (color_marked bytes.mark) (over_colors layer (rule_f4 bytes)) (rule_f4 bytes)) }
+// F1 to F3 of a pixel that is laid over the memory's colour: it is known where that is.
+fn laid(layer: Layer, bytes: Pixel) -> Option<Colors>
+    ensures { result ≡ cond (color_marked bytes.mark) (Some (over_colors layer (rule_f4 bytes))) None }
 {
     if color_marked(bytes.mark) {
-        return Colored {
-            known: true,
-            colors: over_colors(layer, colors_of(bytes)),
-        };
+        return Some(over_colors(layer, colors_of(bytes)));
     }
-    kept(bytes)
+    None
 }
 
-// F1 to F4.
+// F1 to F3.
 fn color_after(
     mode: RenderMode,
     combiner: Combiner,
     source: Source,
     coloring: Coloring,
-    coverage: Coverage,
     bytes: Pixel,
-) -> Colored
-    requires told { coverage ≡ coverage_at bytes }
-    requires colored { ColoringOf mode combiner source.color coloring }
+) -> Option<Colors>
+    requires { ColoringOf mode combiner source.color coloring }
     ensures { result ≡ colored_of mode combiner source bytes }
 {
     match coloring {
-        Coloring::Opaque(colors) => Colored {
-            known: true,
-            colors,
-        },
+        Coloring::Opaque(colors) => Some(colors),
         Coloring::Layered(layer) => laid(layer, bytes),
-        Coloring::Blended => blended(mode, combiner, source, coverage, bytes),
+        Coloring::Blended => blended(mode, combiner, source, bytes),
     }
 }
 
@@ -279,10 +222,7 @@ fn color_after(
 fn full_from(least: u8, count: u8) -> Coverage
     ensures { result ≡ full_from least count }
 {
-    if count >= least {
-        return Coverage::Known(7);
-    }
-    Coverage::Unknown
+    (count >= least).then_some(7)
 }
 
 // What memory keeps with cvg_dst 0 whatever it had, if that is one number.
@@ -298,54 +238,47 @@ fn fresh_clamp(mode: RenderMode, count: u8) -> Coverage
     if mode.antialias {
         return full_from(8, count);
     }
-    Coverage::Known(count - 1)
+    Some(count - 1)
 }
 
 // F5, an unmarked coverage: the one number that `destination` gives for all eight memory coverages, without asking it of each.
+#[tactic(auto, using(crate::proofs::Eight::fresh_settled), unfolding(blender::specs::Settled::settled_of))]
 fn fresh(mode: RenderMode, count: u8) -> Coverage
     requires { (1 ≤ count) × (count ≤ 8) }
     ensures { result ≡ fresh_coverage mode count }
 {
-    let dst = mode.cvg_dst;
-    match dst {
+    match mode.cvg_dst {
         0 => fresh_clamp(mode, count),
-        2 => Coverage::Known(7),
-        _ => Coverage::Unknown,
+        2 => Some(7),
+        _ => None,
     }
 }
 
 // F5.
+#[tactic(auto, unfolding(crate::specs::Rules::rule_f5))]
 fn next_coverage(mode: RenderMode, count: u8, coverage: Coverage) -> Coverage
     requires samples { (1 ≤ count) × (count ≤ 8) }
     requires small { or_zero coverage ≤ 7 }
     ensures { result ≡ rule_f5 mode count coverage }
 {
     match coverage {
-        Coverage::Known(c) => Coverage::Known(blender::destination(mode, count, c)),
-        Coverage::Unknown => fresh(mode, count),
+        Some(c) => Some(blender::destination(mode, count, c)),
+        None => fresh(mode, count),
     }
 }
 
-fn kept_or_known(coverage: Coverage, old: u8) -> u8
-    ensures { result ≡ coverage_byte coverage old }
+// The five bytes of what the rules say: F4, a byte of which nothing is then known stays.
+#[tactic(auto, unfolding(crate::specs::Rules::assembled))]
+fn assemble(color: Option<Colors>, coverage: Coverage, old: Pixel) -> Pixel
+    ensures { result ≡ assembled (is_some color) (unwrap_or color (rule_f4 old)) coverage old.coverage }
 {
-    match coverage {
-        Coverage::Unknown => old,
-        Coverage::Known(c) => c,
-    }
-}
-
-// The five bytes of what the rules say.
-fn assemble(color: Colored, coverage: Coverage, old: u8) -> Pixel
-    ensures { result ≡ assembled color.known color.colors coverage old }
-{
-    let colors = color.colors;
+    let colors = color.unwrap_or(colors_of(old));
     Pixel {
         red: colors.red,
         green: colors.green,
         blue: colors.blue,
-        coverage: kept_or_known(coverage, old),
-        mark: mark_of(color.known, !is_unknown(coverage)),
+        coverage: coverage.unwrap_or(old.coverage),
+        mark: mark_of(color.is_some(), coverage.is_some()),
     }
 }
 
@@ -355,11 +288,9 @@ pub fn rules(mode: RenderMode, combiner: Combiner, source: Source, bytes: Pixel)
     requires small { or_zero (coverage_at bytes) ≤ 7 }
     ensures { result ≡ pixel_step mode combiner source bytes }
 {
-    let old = bytes.coverage;
-    let coverage = coverage_of(bytes.mark, old);
-    let color = color_by_rules(mode, combiner, source, coverage, bytes);
-    let after = next_coverage(mode, source.count, coverage);
-    assemble(color, after, old)
+    let color = color_by_rules(mode, combiner, source, bytes);
+    let coverage = next_coverage(mode, source.count, coverage_at(bytes));
+    assemble(color, coverage, bytes)
 }
 
 // The same, by what is known ahead of the pixel.
@@ -375,14 +306,13 @@ pub fn step(
     requires colored { ColoringOf mode combiner source.color coloring }
     ensures { result ≡ pixel_step mode combiner source bytes }
 {
-    let old = bytes.coverage;
-    let coverage = coverage_of(bytes.mark, old);
-    let color = color_after(mode, combiner, source, coloring, coverage, bytes);
-    let after = next_coverage(mode, source.count, coverage);
-    assemble(color, after, old)
+    let color = color_after(mode, combiner, source, coloring, bytes);
+    let coverage = next_coverage(mode, source.count, coverage_at(bytes));
+    assemble(color, coverage, bytes)
 }
 
 // The bytes of a pixel's own colour.
+#[tactic(auto, unfolding(crate::specs::Coloring::own_colors))]
 pub fn own_colors(mode: RenderMode, combiner: Combiner, color: Rgba) -> Colors
     ensures { result ≡ own_colors mode combiner color }
 {
