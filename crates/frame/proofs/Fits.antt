@@ -13,7 +13,7 @@ use Rattle.frame_pixel.specs.declared.Pixel.{Pixel}
 use Rattle.frame_pixel.specs.Marks.{highest_mark, coverage_marked, coverage_of}
 use Rattle.blender.specs.Blend.{or_zero}
 use Rattle.num_float.proofs.Tests.{both_left, both_right}
-use Rattle.blender.specs.declared.Coverage.TheVariants.{Unknown, Known}
+use Rattle.std.specs.Prelude.{None, Some}
 use Rattle.frame.specs.Frame.{Frame, put_pixel}
 use Rattle.frame.specs.Fits.{Fit}
 use Rattle.frame.specs.Checks.{size_ok, sizes_ok, lengths_ok, mark_ok, marks_ok, frame_refusal}
@@ -28,7 +28,7 @@ module _ (m c : ℕ) where
   unfolding mark_ok
   mark_le h = go (coverage_marked m) (both_right (leb m highest_mark) (not (coverage_marked m) || leb c 7) h)
     where
-      go : (b : Bool) → (not b || leb c 7) ≡ true → or_zero (cond b (Known c) Unknown) ≤ 7
+      go : (b : Bool) → (not b || leb c 7) ≡ true → or_zero (cond b (Some c) None) ≤ 7
       go true p = leb-true c 7 p
       go false p = omega arith
 
@@ -36,7 +36,7 @@ module _ (m c : ℕ) where
   unfolding mark_ok
   mark_good l h = λ i. le-leb m highest_mark l i && go (coverage_marked m) h i
     where
-      go : (b : Bool) → or_zero (cond b (Known c) Unknown) ≤ 7 → (not b || leb c 7) ≡ true
+      go : (b : Bool) → or_zero (cond b (Some c) None) ≤ 7 → (not b || leb c 7) ≡ true
       go true p = le-leb c 7 p
       go false p = refl
 

@@ -2,22 +2,22 @@
 -- decides. Assumes nothing.
 use mathlib.Core.Path.{◌≡◌, refl, sym, ap, ◌∙◌}
 use mathlib.Core.Bool.{Bool, true, false, not, ◌&&◌, ◌||◌}
-use mathlib.Core.List.{List, [], ◌∷◌}
-use Prim.Native.Nat.{ℕ, zero, suc, ◌+◌, ◌-◌, ◌*◌, ◌/◌, ◌%◌, ◌^◌, ◌≤◌, ◌<◌}
+use mathlib.Core.Logic.{◌⊎◌, inl, inr}
+use mathlib.Core.List.{List, [], ◌∷◌, ◌++◌}
+use Prim.Native.Nat.{ℕ, zero, suc, ◌+◌, ◌-◌, ◌/◌, ◌%◌, ◌^◌, ◌≤◌, ◌<◌, min}
 use native.Mathlib.Numerals.{add-one}
 use native.Mathlib.Omega.{arith}
-use borrow.Author.Tests.{leb-true, leb-false, le-leb, lt-leb, eqb-true}
+use borrow.Author.Tests.{leb-true, leb-false, le-leb, lt-leb}
 use lib.Bits.{bit_and, bit_or, or_lt, or_add_and, or_mod, and_le_l, and_le_r, and_mod, and_shr}
-use lib.Dec.{leb, eqb}
+use lib.Dec.{leb}
 use lib.Pow.{pow_pos}
-use lib.ListN.{length, get_or, take, drop, drop_of_length-le}
-use lib.Seq.{drop-cons, drop-drop}
+use lib.ListN.{length, get_or, drop, drop_of_length-le}
+use Rattle.std.proofs.Common.{length-append}
+use lib.Seq.{drop-cons}
 use Rattle.frame_pixel.specs.Marks.{highest_mark, coverage_marked}
-use Rattle.frame.specs.Frame.{Frame}
-use Rattle.frame.specs.Checks.{size_ok, sizes_ok, lengths_ok, mark_ok, marks_ok, frame_refusal}
+use Rattle.frame.specs.Checks.{mark_ok, marks_ok}
 use Rattle.frame.specs.Finding.{every, at_most, coverage_unmarked}
 use Rattle.num_float.proofs.Tests.{both_left, both_right, and_true}
-use Rattle.frame.proofs.Fits.{pixels_le}
 
 together : (a b c : Bool) → ((a && b) && c) ≡ (a && (b && c))
 together true b c = refl
@@ -60,12 +60,12 @@ marks_nil [] = refl
 marks_nil (c ∷ cs) = refl
 
 -- two adjoining parts decide
-marks_parts : (n : ℕ) (cs ms : List ℕ) → marks_ok cs ms ≡ (marks_ok (take n cs) (take n ms) && marks_ok (drop n cs) (drop n ms))
+pub marks_parts : (cs ms ds ns : List ℕ) → length cs ≡ length ms → marks_ok (cs ++ ds) (ms ++ ns) ≡ (marks_ok cs ms && marks_ok ds ns)
 unfolding marks_ok
-marks_parts zero cs ms = refl
-marks_parts (suc n) [] ms = refl
-marks_parts (suc n) (c ∷ cs) [] = marks_nil (drop n cs)
-marks_parts (suc n) (c ∷ cs) (m ∷ ms) = (λ j. mark_ok m c && marks_parts n cs ms j) ∙ sym (together (mark_ok m c) (marks_ok (take n cs) (take n ms)) _)
+marks_parts [] [] ds ns e = refl
+marks_parts [] (m ∷ ms) ds ns e = absurd (omega arith)
+marks_parts (c ∷ cs) [] ds ns e = absurd (omega arith)
+marks_parts (c ∷ cs) (m ∷ ms) ds ns e = (λ j. mark_ok m c && marks_parts cs ms ds ns (omega arith) j) ∙ sym (together (mark_ok m c) (marks_ok cs ms) (marks_ok ds ns))
 
 module _ (cs ms : List ℕ) where
   pub marks_none : {i : ℕ} → length ms ≤ i → true ≡ marks_ok (drop i cs) (drop i ms)
@@ -77,12 +77,32 @@ module _ (cs ms : List ℕ) where
   unfolding marks_ok
   marks_more {i} e h = let k : i < length cs = omega arith in rw (add-one, drop-cons cs i 0, drop-cons ms i 0)
 
-  pub marks_part :
-      {s e : ℕ} → s < e
-      → marks_ok (drop s cs) (drop s ms) ≡ (marks_ok (take (e - s) (drop s cs)) (take (e - s) (drop s ms)) && marks_ok (drop e cs) (drop e ms))
-  marks_part {s} {e} h =
-      let k : s + (e - s) ≡ e = omega arith in
-      marks_parts (e - s) (drop s cs) (drop s ms) ∙ simp (drop-drop, k)
+-- ---- a loop over the parts of both: what is left of each, in parts of one size, decides
+pub record PartsLeft (cs ms ds ns : List ℕ) (size sizes : ℕ) : Type 0 where
+  pub one_size : size ≡ sizes
+  pub long : length ds ≡ length ns
+  pub decide : marks_ok ds ns ≡ marks_ok cs ms
+
+module _ {cs ms ds ns : List ℕ} {size sizes : ℕ} (left : PartsLeft cs ms ds ns size sizes) where
+  -- a part of each, and what is left after it
+  module _
+      (c_part m_part ds' ns' : List ℕ) (e : ds ≡ c_part ++ ds') (f : ns ≡ m_part ++ ns') (n : length c_part ≡ min size (length ds))
+      (m : length m_part ≡ min sizes (length ns)) where
+    same_part : length c_part ≡ length m_part
+    same_part = n ∙ (λ i. min (left.one_size i) (left.long i)) ∙ sym m
+
+    pub part_decides : (marks_ok c_part m_part && marks_ok ds' ns') ≡ marks_ok cs ms
+    part_decides = sym (marks_parts c_part m_part ds' ns' same_part) ∙ (λ i. marks_ok (sym e i) (sym f i)) ∙ left.decide
+
+    pub parts_less : {size' sizes' : ℕ} → size' ≡ size → sizes' ≡ sizes → marks_ok c_part m_part ≡ true → PartsLeft cs ms ds' ns' size' sizes'
+    parts_less p q good =
+        let c_length = ap length e ∙ length-append c_part ds' in
+        let m_length = ap length f ∙ length-append m_part ns' in
+        record { one_size = p ∙ left.one_size ∙ sym q; long = omega (arith, same_part, left.long); decide = (λ i. sym good i && marks_ok ds' ns') ∙ part_decides }
+
+  pub parts_done : (length ds ≡ 0) ⊎ (length ns ≡ 0) → true ≡ marks_ok cs ms
+  parts_done (inl h) = marks_none ds ns {i = 0} (omega (arith, left.long)) ∙ left.decide
+  parts_done (inr h) = marks_none ds ns {i = 0} (omega (arith, left.long)) ∙ left.decide
 
 -- ---- marks put together: a question to two marks, put to the bits that one of them has or to those that both have
 just_if_both : (x a b : Bool) → (a ≡ true → b ≡ true → x ≡ true) → (a ≡ false → x ≡ false) → (b ≡ false → x ≡ false) → x ≡ (a && b)
@@ -166,36 +186,3 @@ marks_marked (c ∷ cs) (m ∷ ms) e p q =
     let r = every (at_most highest_mark) ms in
     let s = every coverage_marked ms in
     λ i. (sym (both_left a r p) i && (not (sym (both_left b s q) i) || leb c 7)) && marks_marked cs ms (omega arith) (both_right a r p) (both_right b s q) i
-
--- ---- numbers 1 to 3
-size_le : (n : ℕ) → size_ok n ≡ true → n ≤ 1024
-size_le n p = leb-true n 1024 (both_right (leb 1 n) (leb n 1024) p)
-
-pub sizes_le : (w h : ℕ) → sizes_ok w h ≡ true → w * h ≤ 1048576
-sizes_le w h p = pixels_le w h (size_le w (both_left (size_ok w) (size_ok h) p)) (size_le h (both_right (size_ok w) (size_ok h) p))
-
-pub lengths_same : (f : Frame) (n : ℕ) → lengths_ok f n ≡ true → length f.coverages ≡ length f.marks
-lengths_same f n p =
-    let b = eqb (length f.coverages) n in
-    let c = eqb (length f.marks) n in
-    let rest : (b && c) ≡ true = both_right (eqb (length f.colors) (3 * n)) (b && c) p in
-    eqb-true (length f.coverages) n (both_left b c rest) ∙ sym (eqb-true (length f.marks) n (both_right b c rest))
-
-module _ (f : Frame) (w h : ℕ) where
-  pub first : sizes_ok w h ≡ false → 1 ≡ frame_refusal f w h
-  unfolding frame_refusal
-  first p = rw p
-
-  module _ (p : sizes_ok w h ≡ true) where
-    pub second : lengths_ok f (w * h) ≡ false → 2 ≡ frame_refusal f w h
-    unfolding frame_refusal
-    second q = rw (p, q)
-
-    module _ (q : lengths_ok f (w * h) ≡ true) where
-      pub third : marks_ok f.coverages f.marks ≡ false → 3 ≡ frame_refusal f w h
-      unfolding frame_refusal
-      third r = rw (p, q, r)
-
-      pub none : marks_ok f.coverages f.marks ≡ true → 0 ≡ frame_refusal f w h
-      unfolding frame_refusal
-      none r = rw (p, q, r)

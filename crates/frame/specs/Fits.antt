@@ -1,9 +1,10 @@
 -- Inner vocabulary. A frame that numbers 1 to 3 let through, and a pixel as far as it is known. Definitions only.
-use Rattle.std.specs.Prelude.{ℕ, ◌+◌, ◌*◌, ◌≤◌, ◌≡◌, Bool, cond, List, length, get_or, set}
+use Rattle.std.specs.Prelude.{ℕ, ◌+◌, ◌*◌, ◌≤◌, ◌≡◌, Bool, cond, List, length, get_or, set, Option, Some, None}
 use Rattle.frame_pixel.specs.declared.Pixel.{Pixel}
 use Rattle.frame_pixel.specs.Marks.{highest_mark, color_marked, coverage_marked, coverage_of}
+use Rattle.blender.specs.Coverage.{Coverage}
 use Rattle.blender.specs.Blend.{or_zero}
-use Rattle.frame_pixel.specs.Rules.{rule_f4}
+use Rattle.frame_pixel.specs.Rules.{rule_f4, coverage_at}
 use Rattle.frame.specs.Frame.{Frame}
 use Rattle.frame_pixel.specs.declared.Colors.{Colors}
 
@@ -39,19 +40,21 @@ known_pixel x =
       mark = x.mark;
     }
 
--- a byte stored, if it is known
-abbrev pub put_if : Bool → List ℕ → ℕ → ℕ → List ℕ
-put_if known l i v = cond known (set l i v) l
+-- a pixel's colour stored, if it is known
+abbrev pub with_colors : List ℕ → ℕ → Option Colors → List ℕ
+with_colors colors p None = colors
+with_colors colors p (Some new) = set (set (set colors (3 * p) new.red) (3 * p + 1) new.green) (3 * p + 2) new.blue
+
+-- its coverage stored, if it is given
+abbrev pub with_coverage : List ℕ → ℕ → Coverage → List ℕ
+with_coverage coverages p None = coverages
+with_coverage coverages p (Some c) = set coverages p c
 
 -- a pixel stored: its colours if they are known, its coverage if it is given, and its mark
-abbrev pub stored_at : Frame → ℕ → Bool → Colors → Bool → ℕ → ℕ → Frame
-stored_at f p known new covers coverage mark =
-    record {
-      colors = put_if known (put_if known (put_if known f.colors (3 * p) new.red) (3 * p + 1) new.green) (3 * p + 2) new.blue;
-      coverages = put_if covers f.coverages p coverage;
-      marks = set f.marks p mark;
-    }
+abbrev pub stored_at : Frame → ℕ → Option Colors → Coverage → ℕ → Frame
+stored_at f p color coverage mark =
+    record { colors = with_colors f.colors p color; coverages = with_coverage f.coverages p coverage; marks = set f.marks p mark }
 
 -- and as far as its mark says that it is known
 abbrev pub put_known : Frame → ℕ → Pixel → Frame
-put_known f p x = stored_at f p (color_marked x.mark) (rule_f4 x) (coverage_marked x.mark) x.coverage x.mark
+put_known f p x = stored_at f p (cond (color_marked x.mark) (Some (rule_f4 x)) None) (coverage_at x) x.mark

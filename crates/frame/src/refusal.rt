@@ -3,10 +3,12 @@ ghost use Rattle.std.specs.Prelude.{◌≡◌, true, ◌&&◌, ◌*◌, ◌<◌,
 ghost use Rattle.frame_pixel.specs.Marks.{highest_mark, coverage_marked};
 ghost use Rattle.frame.specs.Frame.{frame_of};
 ghost use Rattle.frame.specs.Loads.{CoverageThere};
+ghost use Rattle.refused.specs.Numbers.{refusal_of};
 ghost use Rattle.frame.specs.Checks.{size_ok, sizes_ok, mark_ok, marks_ok, frame_refusal};
 ghost use Rattle.frame.specs.Finding.{every, at_most, Sees, Tells};
 
 use crate::load;
+use refused::Refusal;
 
 const SIZE: u32 = 1024;
 
@@ -37,32 +39,20 @@ struct Seen {
 fn size_ok(n: u32) -> bool
     ensures { result ≡ size_ok n }
 {
-    if n < 1 {
-        return false;
-    }
-    n <= SIZE
+    (1..=SIZE).contains(&n)
 }
 
 fn sizes_ok(width: u32, height: u32) -> bool
     ensures { result ≡ sizes_ok width height }
 {
-    if !size_ok(width) {
-        return false;
-    }
-    size_ok(height)
+    size_ok(width) && size_ok(height)
 }
 
 fn lengths_ok(colors: usize, coverages: usize, marks: usize, pixels: usize) -> bool
     requires { pixels ≤ 1048576 }
     ensures { result ≡ (eqb colors (3 * pixels) && (eqb coverages pixels && eqb marks pixels)) }
 {
-    if colors != 3 * pixels {
-        return false;
-    }
-    if coverages != pixels {
-        return false;
-    }
-    marks == pixels
+    colors == 3 * pixels && coverages == pixels && marks == pixels
 }
 
 // One pass without a branch, so that the loop has no other exit and many marks are taken at a time. It puts bits together, and what they say is asked once, at the end.
@@ -71,12 +61,9 @@ fn see(marks: &[u8]) -> Seen
 {
     let mut any: u8 = 0;
     let mut all: u8 = 255;
-    let mut i = 0;
-    while i < marks.len() {
-        let mark = marks[i];
-        any = any | mark;
-        all = all & mark;
-        i += 1;
+    for &mark in marks {
+        any |= mark;
+        all &= mark;
     }
     Seen {
         low: any <= MARK,
@@ -91,24 +78,20 @@ fn all_low(coverages: &[u8], marks: &[u8]) -> bool
     ensures { result ≡ every (at_most 7) coverages.now }
 {
     let mut ok = true;
-    let mut i = 0;
-    while i < coverages.len() {
-        let coverage = load::coverage(coverages, marks, i);
-        let low = coverage <= COVERAGE;
-        ok = ok & low;
-        i += 1;
+    for i in 0..coverages.len() {
+        ok &= load::coverage(coverages, marks, i) <= COVERAGE;
     }
     ok
 }
 
 // An unmarked coverage is not loaded. The mark itself was checked before.
+#[tactic(auto, using(crate::proofs::Loads::mark_low))]
 fn mark_ok(coverages: &[u8], marks: &[u8], i: usize) -> bool
     requires marked { (i < length marks.now) × (get_or marks.now i 0 ≤ highest_mark) }
     requires there { CoverageThere coverages.now marks.now i }
     ensures { result ≡ mark_ok (get_or marks.now i 0) (get_or coverages.now i 0) }
 {
-    let coverage = load::known_coverage(coverages, marks, i);
-    coverage <= COVERAGE
+    load::known_coverage(coverages, marks, i) <= COVERAGE
 }
 
 // One pixel after the other: for marks of which some, not all, mark a coverage. The one branch is whether a coverage may be loaded.
@@ -117,16 +100,14 @@ fn mixed_ok(coverages: &[u8], marks: &[u8]) -> bool
     ensures { result ≡ marks_ok coverages.now marks.now }
 {
     let mut ok = true;
-    let mut i = 0;
-    while i < marks.len() {
-        let good = mark_ok(coverages, marks, i);
-        ok = ok & good;
-        i += 1;
+    for i in 0..marks.len() {
+        ok &= mark_ok(coverages, marks, i);
     }
     ok
 }
 
 // The marks alone say whether no coverage may be loaded, every one, or only some.
+#[tactic(auto, unfolding(crate::specs::Finding::Tells))]
 fn look(coverages: &[u8], marks: &[u8]) -> Finding
     requires { length coverages.now ≡ length marks.now }
     ensures { Tells coverages.now marks.now result }
@@ -142,11 +123,13 @@ fn look(coverages: &[u8], marks: &[u8]) -> Finding
         return Finding::Mixed;
     }
     if all_low(coverages, marks) {
-        return Finding::Good;
+        Finding::Good
+    } else {
+        Finding::Bad
     }
-    Finding::Bad
 }
 
+#[tactic(auto, unfolding(crate::specs::Finding::Tells))]
 fn part_ok(coverages: &[u8], marks: &[u8]) -> bool
     requires { length coverages.now ≡ length marks.now }
     ensures { result ≡ marks_ok coverages.now marks.now }
@@ -158,35 +141,20 @@ fn part_ok(coverages: &[u8], marks: &[u8]) -> bool
     }
 }
 
-// The last part may be shorter.
-fn part_end(start: usize, end: usize) -> usize
-    requires { start < end }
-    ensures { (start < result) × (result ≤ end) }
-{
-    if end - start < PART {
-        return end;
-    }
-    start + PART
-}
-
 // Part after part: known and unknown pixels mostly lie together, so that few parts are mixed.
 fn parts_ok(coverages: &[u8], marks: &[u8]) -> bool
     requires { length coverages.now ≡ length marks.now }
     ensures { result ≡ marks_ok coverages.now marks.now }
 {
-    let mut start = 0;
-    while start < marks.len() {
-        let end = part_end(start, marks.len());
-        let some_coverages = &coverages[start..end];
-        let some_marks = &marks[start..end];
+    for (some_coverages, some_marks) in coverages.chunks(PART).zip(marks.chunks(PART)) {
         if !part_ok(some_coverages, some_marks) {
             return false;
         }
-        start = end;
     }
     true
 }
 
+#[tactic(auto, unfolding(crate::specs::Finding::Tells))]
 fn marks_ok(coverages: &[u8], marks: &[u8]) -> bool
     requires { length coverages.now ≡ length marks.now }
     ensures { result ≡ marks_ok coverages.now marks.now }
@@ -198,19 +166,26 @@ fn marks_ok(coverages: &[u8], marks: &[u8]) -> bool
     }
 }
 
-// The first of numbers 1 to 3 that holds, or 0.
-pub fn frame_refusal(colors: &[u8], coverages: &[u8], marks: &[u8], width: u32, height: u32) -> u8
-    ensures { result ≡ frame_refusal (frame_of colors.now coverages.now marks.now) width height }
+// Whether the frame is turned away: by the first of numbers 1 to 3 that holds.
+#[tactic(auto, unfolding(crate::specs::Checks::frame_refusal))]
+pub fn frame_refusal(
+    colors: &[u8],
+    coverages: &[u8],
+    marks: &[u8],
+    width: u32,
+    height: u32,
+) -> Result<(), Refusal>
+    ensures { refusal_of result ≡ frame_refusal (frame_of colors.now coverages.now marks.now) width height }
 {
     if !sizes_ok(width, height) {
-        return 1;
+        return Err(Refusal::Size);
     }
     let pixels = width * height;
     if !lengths_ok(colors.len(), coverages.len(), marks.len(), pixels as usize) {
-        return 2;
+        return Err(Refusal::Lengths);
     }
     if !marks_ok(coverages, marks) {
-        return 3;
+        return Err(Refusal::Marks);
     }
-    0
+    Ok(())
 }

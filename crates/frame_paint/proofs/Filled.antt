@@ -11,7 +11,7 @@ use Rattle.num_float.specs.Color.{f1}
 use Rattle.state.specs.declared.RenderMode.{RenderMode}
 use Rattle.state.specs.declared.Rgba.{Rgba}
 use Rattle.combiner.specs.declared.Combiner.{Combiner}
-use Rattle.blender.specs.declared.Coverage.TheVariants.{Unknown, Known}
+use Rattle.std.specs.Prelude.{None, Some}
 use Rattle.frame_pixel.specs.declared.Colors.{Colors}
 use Rattle.frame_pixel.specs.declared.full.Full.{Full}
 use Rattle.frame_pixel.specs.Marks.{color_marked, coverage_marked, unknown, mark_of}
@@ -31,7 +31,7 @@ use Rattle.frame_paint.proofs.Steps.{set_back, three_back}
 -- ---- what is stored
 full-coverage :
     (fills m : Bool) (cs : List ℕ) (p : ℕ) → p < length cs
-    → put_if fills cs p 7 ≡ set cs p (coverage_byte (full_coverage fills (cond m (Known (get_or cs p 0)) Unknown)) (get_or cs p 0))
+    → put_if fills cs p 7 ≡ set cs p (coverage_byte (full_coverage fills (cond m (Some (get_or cs p 0)) None)) (get_or cs p 0))
 full-coverage true m cs p h = refl
 full-coverage false true cs p h = sym (set_back cs p h)
 full-coverage false false cs p h = sym (set_back cs p h)
@@ -44,7 +44,7 @@ full-colors true l p new h = refl
 full-colors false l p new h = sym (three_back l (3 * p) h)
 
 -- the marks that it sets, joined with those of its colour and of the coverage that stood there
-full_mark : (known m fills : Bool) (c : ℕ) → bit_or (mark_of known m) (mark_of false fills) ≡ mark_of known (not (unknown (full_coverage fills (cond m (Known c) Unknown))))
+full_mark : (known m fills : Bool) (c : ℕ) → bit_or (mark_of known m) (mark_of false fills) ≡ mark_of known (not (unknown (full_coverage fills (cond m (Some c) None))))
 unfolding mark_of
 full_mark true true true c = refl
 full_mark true true false c = refl

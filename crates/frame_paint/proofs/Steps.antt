@@ -11,7 +11,7 @@ use Rattle.state.specs.declared.Rgba.{Rgba}
 use Rattle.combiner.specs.declared.Combiner.{Combiner}
 use Rattle.num_bits.specs.Ones.{ones_of}
 use Rattle.frame_pixel.specs.declared.Pixel.{Pixel}
-use Rattle.blender.specs.declared.Coverage.TheVariants.{Known, Unknown}
+use Rattle.std.specs.Prelude.{None, Some}
 use Rattle.blender.specs.declared.Source.{Source}
 use Rattle.frame_pixel.specs.Marks.{color_marked, coverage_marked, coverage_of}
 use Rattle.frame_pixel.specs.Rules.{pixel_step}
@@ -54,7 +54,7 @@ known_alike x =
 pub known_sound : (x : Pixel) → or_zero (coverage_of x.mark (known_pixel x).coverage) ≡ or_zero (coverage_of x.mark x.coverage)
 known_sound x = go (coverage_marked x.mark)
   where
-    go : (b : Bool) → or_zero (cond b (Known (cond b x.coverage 0)) Unknown) ≡ or_zero (cond b (Known x.coverage) Unknown)
+    go : (b : Bool) → or_zero (cond b (Some (cond b x.coverage 0)) None) ≡ or_zero (cond b (Some x.coverage) None)
     go true = refl
     go false = refl
 
