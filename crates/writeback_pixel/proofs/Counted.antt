@@ -11,8 +11,7 @@ use Rattle.num_bits.proofs.Masks.{ones_range, no_ones, ones_lowest}
 use Rattle.state.specs.declared.RenderMode.{RenderMode}
 use Rattle.state.specs.declared.Rgba.{Rgba}
 use Rattle.combiner.specs.declared.Combiner.{Combiner}
-use Rattle.blender.specs.declared.Coverage.{Coverage}
-use Rattle.blender.specs.Coverage.{destination_of}
+use Rattle.blender.specs.Coverage.{Coverage, destination_of}
 use Rattle.blender.specs.Known.{color_known}
 use Rattle.blender.specs.Blend.{blend_of}
 use Rattle.writeback_pixel.specs.Refusal.{mask_ok, coverage_ok, known_ok, checked}

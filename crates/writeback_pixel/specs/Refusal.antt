@@ -1,7 +1,8 @@
 -- To be believed. Number 11 (docs/RULES.md, The numbers): what a single-pixel call may be given, as far as it takes it. Definitions only.
-use Rattle.std.specs.Prelude.{ℕ, Bool, true, cond, ◌&&◌, leb, ltb}
-use Rattle.blender.specs.declared.Coverage.{Coverage}
-use Rattle.blender.specs.declared.Coverage.TheVariants.{Unknown, Known}
+use Rattle.std.specs.Prelude.{ℕ, Bool, true, cond, ◌&&◌, leb, ltb, Some, None}
+use Rattle.blender.specs.Coverage.{Coverage}
+use Rattle.refused.specs.Numbers.{number_of}
+use Rattle.refused.specs.declared.Refusal.{Refusal}
 use Rattle.words_pack.specs.declared.Writer.{Writer}
 
 -- the number for which a single-pixel call is turned away
@@ -18,8 +19,8 @@ coverage_ok c = leb c 7
 
 -- an absent coverage is not taken
 abbrev pub known_ok : Coverage → Bool
-known_ok Unknown = true
-known_ok (Known c) = coverage_ok c
+known_ok None = true
+known_ok (Some c) = coverage_ok c
 
 -- a width from 1 to 1,024
 abbrev pub width_ok : ℕ → Bool
@@ -52,6 +53,10 @@ accepted value = record { number = 0; value = value }
 -- with number 11 the coverage, word and bytes are zero, and a yes or no is no
 abbrev pub refused : {A : Type 0} → A → Outcome A
 refused none = record { number = eleven; value = none }
+
+-- the same with the number of a refusal
+abbrev pub turned_away : {A : Type 0} → Refusal → A → Outcome A
+turned_away why none = record { number = number_of why; value = none }
 
 unfoldable pub checked : {A : Type 0} → Bool → A → A → Outcome A
 checked ok value none = cond ok (accepted value) (refused none)
