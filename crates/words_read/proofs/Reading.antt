@@ -4,21 +4,23 @@ use mathlib.Core.Bool.{Bool, true, false, ◌&&◌, ◌||◌}
 use Prim.Native.Nat.{ℕ, zero, suc, ◌*◌, ◌≤◌, ◌<◌}
 use native.Mathlib.Omega.{arith}
 use borrow.Author.Tests.{le-ltb, lt-ltb, eqb-true}
-use lib.Dec.{eqb, leb}
+use lib.Dec.{eqb, leb, lit≤}
 use lib.ListN.{length, get_or}
 use Rattle.frame_pixel.specs.declared.Colors.{Colors}
 use Rattle.num_float.proofs.Tests.{never, both_left}
 use Rattle.words_pack.specs.declared.Bytes2.{Bytes2}
 use Rattle.words_pack.specs.declared.FramebufferEncoding.{FramebufferEncoding}
-use Rattle.words_pack.specs.declared.Literal.TheVariants.{Absent}
+use Rattle.std.specs.Prelude.{None}
 use Rattle.state.specs.declared.Rgba8.{Rgba8}
 use Rattle.words_pack.specs.declared.Writer.{Writer}
 use Rattle.words_pack.specs.Writer.{color_supported, supported_of, encode_of}
-use Rattle.words_read.specs.declared.Word.TheVariants.{Bytes, Refused}
+use Rattle.refused.specs.declared.Refusal.{Refusal}
+use Rattle.refused.specs.declared.Refusal.TheVariants as refusal
+use Rattle.refused.specs.Numbers.{number_of}
 use Rattle.frame.specs.Frame.{Frame, pixel_at}
 use Rattle.frame.specs.Loads.{ColorKnown, Loadable}
 use Rattle.frame.specs.Checks.{or_else, frame_refusal}
-use Rattle.words_read.specs.Read.{ReadArgs, writer_by, writer_of, readable, word_refusal, read_refusal, word_by, word_of, word_or, word_means, read_answer}
+use Rattle.words_read.specs.Read.{ReadArgs, writer_by, writer_of, readable, word_refusal, read_refusal, WordAnswer, no_word, word_by, word_of, word_or, read_answer}
 use Rattle.frame.proofs.Fits.{accepted}
 use Rattle.frame.proofs.Loads.{fit_loadable}
 
@@ -28,8 +30,8 @@ rgba c = record { r = c.red; g = c.green; b = c.blue; a = 0 }
 
 pub encoded_with :
     (x : Writer) (pixel dither : ℕ) (e : FramebufferEncoding) {c d : Colors} {n m : ℕ} {r : Bytes2}
-    → r ≡ encode_of x (rgba c) n pixel Absent dither e → c ≡ d → n ≡ m → r ≡ encode_of x (rgba d) m pixel Absent dither e
-encoded_with x pixel dither e h l g = h ∙ (λ i. encode_of x (rgba (l i)) (g i) pixel Absent dither e)
+    → r ≡ encode_of x (rgba c) n pixel None dither e → c ≡ d → n ≡ m → r ≡ encode_of x (rgba d) m pixel None dither e
+encoded_with x pixel dither e h l g = h ∙ (λ i. encode_of x (rgba (l i)) (g i) pixel None dither e)
 
 -- ---- a supported colour writer has 8 or 16 bits
 siz_le : (siz : ℕ) (x y : Bool) → ((eqb siz 2 && x) || (eqb siz 1 && y)) ≡ true → siz ≤ 3
@@ -45,26 +47,44 @@ unfolding supported_of color_supported
 supported_le w fmt siz h = siz_le siz (eqb fmt 0) (leb 2 fmt && leb fmt 4) h
 
 -- ---- the answers
-module _ (a : ReadArgs) (w h : ℕ) (f : Frame) {k : ℕ} (e : k ≡ frame_refusal f w h) where
-  pub read_refused : (k ≡ 0 → ⊥) → word_means (Refused k) ≡ read_answer a w h f
+pub numbered : (e : Refusal) → 1 ≤ number_of e
+numbered refusal.Size = lit≤ tt
+numbered refusal.Lengths = lit≤ tt
+numbered refusal.Marks = lit≤ tt
+numbered refusal.Scissor = lit≤ tt
+numbered refusal.Lists = lit≤ tt
+numbered refusal.Combiner = lit≤ tt
+numbered refusal.Geometry = lit≤ tt
+numbered refusal.Pixel = lit≤ tt
+numbered refusal.Writer = lit≤ tt
+numbered refusal.Unknown = lit≤ tt
+numbered refusal.Arguments = lit≤ tt
+numbered refusal.Words = lit≤ tt
+numbered refusal.Slots = lit≤ tt
+
+abbrev pub refused : ℕ → WordAnswer
+refused k = record { number = k; word = no_word }
+
+module _ (a : ReadArgs) (w h : ℕ) (f : Frame) where
+  pub read_refused : {k : ℕ} → k ≡ frame_refusal f w h → 1 ≤ k → refused k ≡ read_answer a w h f
   unfolding read_answer read_refusal
-  read_refused n = rw (← e) (go k n)
+  read_refused {k} e n = rw (← e) (go k n)
     where
       go :
-          (j : ℕ) → (j ≡ 0 → ⊥)
-          → word_means (Refused j) ≡ word_or (or_else j (word_refusal a w (w * h) (pixel_at f a.pixel))) (word_of a w (pixel_at f a.pixel))
-      go zero n = absurd (n refl)
+          (j : ℕ) → 1 ≤ j
+          → refused j ≡ word_or (or_else j (word_refusal a w (w * h) (pixel_at f a.pixel))) (word_of a w (pixel_at f a.pixel))
+      go zero n = absurd (omega arith)
       go (suc j) n = refl
 
-  module _ (z : k ≡ 0) where
+  module _ (z : frame_refusal f w h ≡ 0) where
     marks_are : length f.marks ≡ w * h
-    marks_are = (accepted f w h (sym e ∙ z)).fit.marks
+    marks_are = (accepted f w h z).fit.marks
 
     answer-by : {j : ℕ} → j ≡ word_refusal a w (w * h) (pixel_at f a.pixel) → word_or j (word_of a w (pixel_at f a.pixel)) ≡ read_answer a w h f
     unfolding read_answer read_refusal
-    answer-by ej = rw (← e, z, ← ej)
+    answer-by ej = rw (z, ← ej)
 
-    pub eighth : length f.marks ≤ a.pixel → word_means (Refused 8) ≡ read_answer a w h f
+    pub eighth : length f.marks ≤ a.pixel → refused 8 ≡ read_answer a w h f
     unfolding word_refusal
     eighth p = answer-by {j = 8} (rw (le-ltb a.pixel (w * h) (omega (arith, marks_are))))
 
@@ -72,19 +92,19 @@ module _ (a : ReadArgs) (w h : ℕ) (f : Frame) {k : ℕ} (e : k ≡ frame_refus
       below : a.pixel < w * h
       below = omega (arith, marks_are)
 
-      pub ninth : supported_of (writer_of a w) ≡ false → word_means (Refused 9) ≡ read_answer a w h f
+      pub ninth : supported_of (writer_of a w) ≡ false → refused 9 ≡ read_answer a w h f
       unfolding word_refusal
       ninth q = answer-by {j = 9} (rw (lt-ltb a.pixel (w * h) below, q))
 
       module _ (q : supported_of (writer_of a w) ≡ true) where
-        pub tenth : readable (get_or f.marks a.pixel 0) a.siz ≡ false → word_means (Refused 10) ≡ read_answer a w h f
+        pub tenth : readable (get_or f.marks a.pixel 0) a.siz ≡ false → refused 10 ≡ read_answer a w h f
         unfolding word_refusal
         tenth r = answer-by {j = 10} (rw (lt-ltb a.pixel (w * h) below, q, r))
 
         pub read :
             readable (get_or f.marks a.pixel 0) a.siz ≡ true → {x : Writer} → x ≡ writer_of a w
             → {b : Bytes2} → b ≡ word_by x a.pixel a.dither a.encoding (pixel_at f a.pixel)
-            → word_means (Bytes b.0 b.1) ≡ read_answer a w h f
+            → word_or 0 b ≡ read_answer a w h f
         unfolding word_refusal word_of
         read r ex eb =
             ap (word_or 0) (eb ∙ ap (λ (x : Writer). word_by x a.pixel a.dither a.encoding (pixel_at f a.pixel)) ex)
@@ -95,7 +115,7 @@ module _ (a : ReadArgs) (w h : ℕ) (f : Frame) {k : ℕ} (e : k ≡ frame_refus
             readable (get_or f.marks a.pixel 0) a.siz ≡ true → {x : Writer} → x ≡ writer_of a w
             → ((x.layout.siz ≤ 3) × (0 < x.layout.width)) × (ColorKnown f.marks a.pixel × Loadable f a.pixel)
         encodable r {x} ex =
-            let y = accepted f w h (sym e ∙ z) in (
+            let y = accepted f w h z in (
               subst (λ (x : Writer). (x.layout.siz ≤ 3) × (0 < x.layout.width)) (sym ex) (supported_le w a.fmt a.siz q, y.width.0),
               (both_left _ _ r, fit_loadable y.fit below),
             )

@@ -1,16 +1,15 @@
 -- To be believed. A word read: numbers 1 to 3 and 8 to 10 (docs/RULES.md, The numbers), and `encode`'s two bytes without a literal. Definitions only.
-use Rattle.std.specs.Prelude.{ℕ, zero, suc, ◌*◌, ◌≤◌, Bool, false, cond, not, ◌&&◌, ◌||◌, ltb, eqb}
+use Rattle.std.specs.Prelude.{ℕ, zero, suc, ◌*◌, ◌≤◌, Bool, false, cond, not, ◌&&◌, ◌||◌, ltb, eqb, None, Result, Ok, Err}
 use Rattle.frame_pixel.specs.declared.Pixel.{Pixel}
 use Rattle.frame_pixel.specs.Marks.{color_marked, coverage_marked, coverage_of}
 use Rattle.blender.specs.Blend.{or_zero}
 use Rattle.words_pack.specs.declared.Bytes2.{Bytes2}
 use Rattle.words_pack.specs.declared.FramebufferEncoding.{FramebufferEncoding}
-use Rattle.words_pack.specs.declared.Literal.TheVariants.{Absent}
 use Rattle.state.specs.declared.Rgba8.{Rgba8}
 use Rattle.words_pack.specs.declared.Writer.{Writer}
 use Rattle.words_pack.specs.Writer.{supported_of, encode_of}
-use Rattle.words_read.specs.declared.Word.{Word}
-use Rattle.words_read.specs.declared.Word.TheVariants.{Bytes, Refused}
+use Rattle.refused.specs.declared.Refusal.{Refusal}
+use Rattle.refused.specs.Numbers.{number_of}
 use Rattle.frame.specs.Frame.{Frame, pixel_at}
 use Rattle.frame.specs.Checks.{or_else, frame_refusal}
 
@@ -48,7 +47,7 @@ abbrev pub bytes_of : Pixel → Rgba8
 bytes_of x = record { r = x.red; g = x.green; b = x.blue; a = 0 }
 
 abbrev pub word_by : Writer → ℕ → ℕ → FramebufferEncoding → Pixel → Bytes2
-word_by writer pixel dither encoding x = encode_of writer (bytes_of x) (or_zero (coverage_of x.mark x.coverage)) pixel Absent dither encoding
+word_by writer pixel dither encoding x = encode_of writer (bytes_of x) (or_zero (coverage_of x.mark x.coverage)) pixel None dither encoding
 
 unfoldable pub word_of : ReadArgs → ℕ → Pixel → Bytes2
 word_of a w x = word_by (writer_of a w) a.pixel a.dither a.encoding x
@@ -61,14 +60,14 @@ pub record WordAnswer : Type 0 where
 abbrev pub no_word : Bytes2
 no_word = (0, 0)
 
-abbrev pub word_means : Word → WordAnswer
-word_means (Bytes a b) = record { number = 0; word = (a, b) }
-word_means (Refused k) = record { number = k; word = no_word }
+abbrev pub word_means : Result Bytes2 Refusal → WordAnswer
+word_means (Ok word) = record { number = 0; word = word }
+word_means (Err e) = record { number = number_of e; word = no_word }
 
 -- a read that is turned away has a number of the list
-abbrev pub Numbered : Word → Type 0
-Numbered (Bytes a b) = Unit
-Numbered (Refused k) = 1 ≤ k
+abbrev pub Numbered : Result Bytes2 Refusal → Type 0
+Numbered (Ok word) = Unit
+Numbered (Err e) = 1 ≤ number_of e
 
 abbrev pub word_or : ℕ → Bytes2 → WordAnswer
 word_or zero word = record { number = 0; word = word }

@@ -7,22 +7,16 @@ ghost use Rattle.frame.specs.Frame.{pixel_at, frame_of};
 ghost use Rattle.frame.specs.Loads.{ColorKnown, Loadable};
 ghost use Rattle.words_read.specs.Read.{readable, writer_by, word_by, read_args, word_means, read_answer, Numbered};
 
+use refused::Refusal;
 use state::Rgba8;
-use words_pack::{Bytes2, FramebufferEncoding, ImageLayout, Literal, Writer};
-
-#[derive(Clone, Copy)]
-pub enum Word {
-    Bytes(u8, u8),
-    Refused(u8),
-}
+use words_pack::{Bytes2, FramebufferEncoding, ImageLayout, Writer};
 
 // A colour writer of the frame's width.
 pub fn writer(width: u32, fmt: u8, siz: u8) -> Writer
     ensures { result ≡ writer_by width fmt siz }
 {
-    let layout = ImageLayout { fmt, siz, width };
     Writer {
-        layout,
+        layout: ImageLayout { fmt, siz, width },
         depth: false,
     }
 }
@@ -31,13 +25,7 @@ pub fn writer(width: u32, fmt: u8, siz: u8) -> Writer
 pub fn is_readable(mark: u8, siz: u8) -> bool
     ensures { result ≡ readable mark siz }
 {
-    if !frame_pixel::color_marked(mark) {
-        return false;
-    }
-    if frame_pixel::coverage_marked(mark) {
-        return true;
-    }
-    siz != 2
+    frame_pixel::color_marked(mark) && (frame_pixel::coverage_marked(mark) || siz != 2)
 }
 
 // `encode`'s two bytes, without a literal, of a pixel whose colour is known.
@@ -63,15 +51,7 @@ fn encoded(
         b: color.blue,
         a: 0,
     };
-    words_pack::encode(
-        writer,
-        rgba,
-        coverage,
-        pixel,
-        Literal::Absent,
-        rgb_dither,
-        encoding,
-    )
+    words_pack::encode(writer, rgba, coverage, pixel, None, rgb_dither, encoding)
 }
 
 // The word of a pixel, where its colour, and its coverage for 16 bits, is known: numbers 1 to 3 and 8 to 10.
@@ -86,27 +66,23 @@ pub fn read_word(
     siz: u8,
     rgb_dither: u8,
     encoding: FramebufferEncoding,
-) -> Word
+) -> Result<Bytes2, Refusal>
     ensures answer { word_means result ≡ read_answer (read_args pixel fmt siz rgb_dither encoding) width height (frame_of colors.now coverages.now marks.now) }
     ensures number { Numbered result }
 {
-    let refusal = frame::refusal::frame_refusal(colors, coverages, marks, width, height);
-    if refusal != 0 {
-        return Word::Refused(refusal);
-    }
+    frame::refusal::frame_refusal(colors, coverages, marks, width, height)?;
     if marks.len() <= pixel {
-        return Word::Refused(8);
+        return Err(Refusal::Pixel);
     }
     let writer = writer(width, fmt, siz);
     if !words_pack::supported(writer) {
-        return Word::Refused(9);
+        return Err(Refusal::Writer);
     }
-    let mark = marks[pixel];
-    if !is_readable(mark, siz) {
-        return Word::Refused(10);
+    if !is_readable(marks[pixel], siz) {
+        return Err(Refusal::Unknown);
     }
     let word = encoded(
         colors, coverages, marks, writer, pixel, rgb_dither, encoding,
     );
-    Word::Bytes(word.0, word.1)
+    Ok(word)
 }
