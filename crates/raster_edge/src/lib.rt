@@ -3,7 +3,7 @@
 // One edge of a triangle or of a rectangle in whole numbers (the Rust's rasterize): its x on a quarter line, what lies between two edges there, and what bounds four lines.
 ghost use Rattle.std.specs.Prelude.{◌≡◌, ◌<◌, ◌≤◌, pos, nat_abs, ◌≤ℤ◌};
 ghost use Rattle.raster_edge.specs.Limits.{Tame};
-ghost use Rattle.raster_edge.specs.Edge.{quantized, away_div, at_least_one, edge_at, cross_of};
+ghost use Rattle.raster_edge.specs.Edge.{quantized, away_div, edge_at, cross_of};
 ghost use Rattle.raster_edge.specs.Span.{span_of};
 ghost use Rattle.raster_edge.specs.Lines.{four_of};
 ghost use Rattle.raster_edge.specs.Bound.{outer_of, tip_of, outermost_of, clamp_of, range_of, edge_of_rows, full_from, full_to};
@@ -32,20 +32,13 @@ fn quantize(x: i64) -> i64
     ((x >> 13) & !1) | (((x & 0x3ffe) != 0) as i64)
 }
 
-// z, but at least 1.
-pub fn max1(z: i64) -> i64
-    ensures { result ≡ pos (at_least_one z) }
-{
-    if z < 1 { 1 } else { z }
-}
-
 // num over den, its size rounded up.
 pub fn away(num: i64, den: i64) -> i64
     requires { (nat_abs num < 1099511627776) × (nat_abs den < 1099511627776) × (pos 1 ≤ℤ den) }
     ensures { result ≡ away_div num (nat_abs den) }
 {
     if num < 0 {
-        0 - (0 - num + den - 1) / den
+        -((-num + den - 1) / den)
     } else {
         (num + den - 1) / den
     }
@@ -56,13 +49,11 @@ fn edge_at(e: Edge, scan: u32) -> i64
     requires { (Tame e) × (scan ≤ 16384) }
     ensures { result ≡ edge_at e scan }
 {
-    let start = e.start;
-    let step = e.step;
-    let base = e.base;
-    start + ((step >> 2) & !1) * (scan as i64 - base)
+    e.start + ((e.step >> 2) & !1) * (scan as i64 - e.base)
 }
 
 // And in eighths of a pixel.
+#[tactic(auto, unfolding(crate::specs::Edge::cross_of))]
 fn cross(e: Edge, scan: u32) -> i64
     requires { (Tame e) × (scan ≤ 16384) }
     ensures { result ≡ cross_of e scan }
@@ -71,6 +62,7 @@ fn cross(e: Edge, scan: u32) -> i64
 }
 
 // What lies between two edges on a quarter line.
+#[tactic(auto, unfolding(crate::specs::Span::span_of))]
 pub fn span_at(major: Edge, other: Edge, rightward: bool, scan: u32) -> Span
     requires { (Tame major) × (Tame other) × (scan ≤ 16384) }
     ensures { result ≡ span_of major other rightward scan }
@@ -85,31 +77,24 @@ pub fn span_at(major: Edge, other: Edge, rightward: bool, scan: u32) -> Span
 }
 
 // An edge on four quarter lines from n.
+#[tactic(auto, unfolding(crate::specs::Lines::four_of))]
 pub fn four(e: Edge, n: u32) -> [i64; 4]
     requires { (Tame e) × (n < 16380) }
     ensures { result ≡ four_of e n }
 {
-    let a = cross(e, n);
-    let b = cross(e, n + 1);
-    let c = cross(e, n + 2);
-    let d = cross(e, n + 3);
-    [a, b, c, d]
+    [
+        cross(e, n),
+        cross(e, n + 1),
+        cross(e, n + 2),
+        cross(e, n + 3),
+    ]
 }
 
 // The smaller of two if `low`, else the larger.
 fn outer(a: i64, b: i64, low: bool) -> i64
     ensures { result ≡ outer_of low a b }
 {
-    if a <= b {
-        if low {
-            return a;
-        }
-        return b;
-    }
-    if low {
-        return b;
-    }
-    a
+    if low { a.min(b) } else { a.max(b) }
 }
 
 // The first eighth that line s of four covers if `low`, else the last. A line that covers none bounds nothing: it is put past pixel 1023, or before pixel 0.
@@ -119,27 +104,24 @@ fn tip(l: [i64; 4], r: [i64; 4], s: usize, low: bool) -> i64
 {
     let a = l[s];
     let b = r[s];
-    if a < b {
-        if low {
-            return a;
-        }
-        return b - 1;
+    match (a < b, low) {
+        (true, true) => a,
+        (true, false) => b - 1,
+        (false, true) => 8192,
+        (false, false) => -1,
     }
-    if low {
-        return 8192;
-    }
-    -1
 }
 
 // The first eighth that four lines cover if `low`, else the last.
+#[tactic(auto, unfolding(crate::specs::Bound::outermost_of))]
 pub fn outermost(l: [i64; 4], r: [i64; 4], low: bool) -> i64
     ensures { result ≡ outermost_of low l r }
 {
-    let a = tip(l, r, 0, low);
-    let b = tip(l, r, 1, low);
-    let c = tip(l, r, 2, low);
-    let d = tip(l, r, 3, low);
-    outer(outer(a, b, low), outer(c, d, low), low)
+    outer(
+        outer(tip(l, r, 0, low), tip(l, r, 1, low), low),
+        outer(tip(l, r, 2, low), tip(l, r, 3, low), low),
+        low,
+    )
 }
 
 // z within lo..=hi.
@@ -147,16 +129,11 @@ pub fn clamp(z: i64, lo: u32, hi: u32) -> u32
     requires { lo ≤ hi }
     ensures { result ≡ clamp_of z lo hi }
 {
-    if z < lo as i64 {
-        return lo;
-    }
-    if z < hi as i64 {
-        return z as u32;
-    }
-    hi
+    z.clamp(lo as i64, hi as i64) as u32
 }
 
 // The part of lo..hi that lies in from..to.
+#[tactic(auto, unfolding(crate::specs::Bound::range_of))]
 pub fn within(from: i64, to: i64, lo: u32, hi: u32) -> Range
     requires { lo ≤ hi }
     ensures { result ≡ range_of from to lo hi }
@@ -167,35 +144,30 @@ pub fn within(from: i64, to: i64, lo: u32, hi: u32) -> Range
 }
 
 // The smaller of the edges on two rows if `low`, else the larger, cut to the eighths of the pixels 0..1024.
+#[tactic(auto, unfolding(crate::specs::Bound::edge_of_rows))]
 fn edge_of_rows(e: [i64; 4], i: usize, j: usize, low: bool) -> u32
     requires { (i < 4) × (j < 4) }
     ensures { result ≡ edge_of_rows low e i j }
 {
-    let a = e[i];
-    let b = e[j];
-    clamp(outer(a, b, low), 0, 8192)
+    clamp(outer(e[i], e[j], low), 0, 8192)
 }
 
 // The first pixel all of whose samples lie right of their left edges. The leftmost samples of pixel x are at 8 x, and at 8 x + 2 on the odd rows.
+#[tactic(auto, using(crate::proofs::Clamped::rows_le), unfolding(crate::specs::Bound::full_from))]
 pub fn full_from(l: [i64; 4]) -> u32
     ensures { result ≡ full_from l }
 {
     let a = edge_of_rows(l, 0, 2, false) + 7;
     let b = edge_of_rows(l, 1, 3, false) + 5;
-    if a < b {
-        return b >> 3;
-    }
-    a >> 3
+    a.max(b) >> 3
 }
 
 // The first pixel not all of whose samples lie left of their right edges. The rightmost are at 8 x + 4, and at 8 x + 6 on the odd rows.
+#[tactic(auto, using(crate::proofs::Clamped::rows_le), unfolding(crate::specs::Bound::full_to))]
 pub fn full_to(r: [i64; 4]) -> u32
     ensures { result ≡ full_to r }
 {
     let a = edge_of_rows(r, 0, 2, true) + 3;
     let b = edge_of_rows(r, 1, 3, true) + 1;
-    if a < b {
-        return a >> 3;
-    }
-    b >> 3
+    a.min(b) >> 3
 }

@@ -4,5 +4,5 @@ pub mod Tame
 pub mod Pairs
 pub mod Outside
 pub mod Fits
-pub mod Inside
+pub mod Innermost
 pub mod Lines

@@ -49,7 +49,7 @@ pub fn slope(a: Corner, b: Corner) -> i64
 {
     let dx = b.x - a.x;
     let dy = b.y - a.y;
-    raster_edge::away(dx << 16, raster_edge::max1(dy)) & !7
+    raster_edge::away(dx << 16, dy.max(1)) & !7
 }
 
 // Twice the area of a triangle, in sixteenths of a pixel; negative for one turn of the corners.
@@ -57,9 +57,7 @@ pub fn quarter_area(v: [Corner; 3]) -> i64
     requires { AllNear v }
     ensures { result ≡ area_of v }
 {
-    let a = v[0];
-    let b = v[1];
-    let c = v[2];
+    let [a, b, c] = v;
     (b.x - a.x) * (c.y - a.y) - (b.y - a.y) * (c.x - a.x)
 }
 
@@ -88,23 +86,18 @@ pub fn setup(v: [Corner; 3]) -> Tri
     requires { AllNear v }
     ensures { result ≡ tri_of v }
 {
-    let a = v[0];
-    let b = v[1];
-    let c = v[2];
+    let [a, b, c] = v;
     let s = slope(a, c);
     let u = slope(a, b);
     let w = slope(b, c);
-    let major = edge_from(a, s);
-    let upper = edge_from(a, u);
-    let lower = Edge {
-        start: b.x << 14,
-        step: w,
-        base: b.y,
-    };
     Tri {
-        major,
-        upper,
-        lower,
+        major: edge_from(a, s),
+        upper: edge_from(a, u),
+        lower: Edge {
+            start: b.x << 14,
+            step: w,
+            base: b.y,
+        },
         top: a.y,
         mid: b.y,
         end: c.y,
@@ -118,26 +111,17 @@ pub fn line_at(t: Tri, scan: u32) -> Span
     ensures { result ≡ line_of t scan }
 {
     let n = scan as i64;
-    let top = t.top;
-    let mid = t.mid;
-    let end = t.end;
-    if n < top {
-        return Span { l: 0, r: 0 };
+    if n < t.top || t.end <= n {
+        Span { l: 0, r: 0 }
+    } else if n < t.mid {
+        raster_edge::span_at(t.major, t.upper, t.rightward, scan)
+    } else {
+        raster_edge::span_at(t.major, t.lower, t.rightward, scan)
     }
-    if end <= n {
-        return Span { l: 0, r: 0 };
-    }
-    let major = t.major;
-    let rightward = t.rightward;
-    if n < mid {
-        let upper = t.upper;
-        return raster_edge::span_at(major, upper, rightward, scan);
-    }
-    let lower = t.lower;
-    raster_edge::span_at(major, lower, rightward, scan)
 }
 
 // The four quarter lines of row y, each by itself.
+#[tactic(auto, unfolding(crate::specs::Span::edges_of))]
 fn lines_at(t: Tri, y: u32) -> Edges
     requires { (TameTri t) × (y < 4095) }
     ensures { result ≡ edges_of t y }
@@ -147,24 +131,27 @@ fn lines_at(t: Tri, y: u32) -> Edges
     let b = line_at(t, n + 1);
     let c = line_at(t, n + 2);
     let d = line_at(t, n + 3);
-    let left = [a.l, b.l, c.l, d.l];
-    let right = [a.r, b.r, c.r, d.r];
-    Edges { left, right }
+    Edges {
+        left: [a.l, b.l, c.l, d.l],
+        right: [a.r, b.r, c.r, d.r],
+    }
 }
 
 // What lies between two edges on four quarter lines from n.
+#[tactic(auto, unfolding(crate::specs::Lines::row_of))]
 fn row_at(major: Edge, other: Edge, rightward: bool, n: u32) -> Edges
     requires { (Tame major) × (Tame other) × (n < 16380) }
     ensures { result ≡ row_of major other rightward n }
 {
-    if rightward {
-        let left = raster_edge::four(major, n);
-        let right = raster_edge::four(other, n);
-        return Edges { left, right };
+    let (left, right) = if rightward {
+        (major, other)
+    } else {
+        (other, major)
+    };
+    Edges {
+        left: raster_edge::four(left, n),
+        right: raster_edge::four(right, n),
     }
-    let left = raster_edge::four(other, n);
-    let right = raster_edge::four(major, n);
-    Edges { left, right }
 }
 
 // The four quarter lines of row y. In most rows the same two edges bound all four; a row with a corner goes line by line.
@@ -175,49 +162,40 @@ pub fn edges_at(t: Tri, y: u32) -> Edges
     let n = y * 4;
     let first = n as i64;
     let last = (n + 3) as i64;
-    let top = t.top;
-    let mid = t.mid;
-    let end = t.end;
-    if top <= first {
-        if last < end {
-            let major = t.major;
-            let rightward = t.rightward;
-            if last < mid {
-                let upper = t.upper;
-                return row_at(major, upper, rightward, n);
-            }
-            if mid <= first {
-                let lower = t.lower;
-                return row_at(major, lower, rightward, n);
-            }
+    if t.top <= first && last < t.end {
+        if last < t.mid {
+            return row_at(t.major, t.upper, t.rightward, n);
+        }
+        if t.mid <= first {
+            return row_at(t.major, t.lower, t.rightward, n);
         }
     }
     lines_at(t, y)
 }
 
-// Whether the sample at n, in eighths of a pixel, lies in l..r: 1 or 0.
+// Whether the sample at n, in eighths of a pixel, lies in l..r.
+pub fn inside(l: i64, r: i64, n: u32) -> bool
+    ensures { result ≡ inside l r n }
+{
+    let p = n as i64;
+    l <= p && p < r
+}
+
+// 1 where it does, and 0 where not.
 fn hit(l: i64, r: i64, n: u32) -> u8
     ensures { result ≡ bit_of (inside l r n) }
 {
-    let p = n as i64;
-    if l <= p {
-        if p < r {
-            return 1;
-        }
-        return 0;
-    }
-    0
+    inside(l, r, n) as u8
 }
 
 // The two samples of pixel x on row s of its four, the left one in the upper bit.
+#[tactic(auto, unfolding(crate::specs::Sample::pair_of, crate::specs::Sample::two_of))]
 fn pair(e: Edges, x: u32, s: usize) -> u8
     requires { (x < 65536) × (s < 4) }
     ensures { result ≡ pair_of e x s }
 {
-    let left = e.left;
-    let right = e.right;
-    let l = left[s];
-    let r = right[s];
+    let l = e.left[s];
+    let r = e.right[s];
     let n = x * 8 + (s as u32 & 1) * 2;
     (hit(l, r, n) << 1) | hit(l, r, n + 4)
 }
@@ -240,10 +218,8 @@ pub fn bounds(e: Edges, x0: u32, x1: u32) -> Range
     ensures kept { Kept (no_sample e) x0 x1 result }
     ensures fits { Inner (Between e) x0 x1 result }
 {
-    let left = e.left;
-    let right = e.right;
-    let first = raster_edge::outermost(left, right, true);
-    let last = raster_edge::outermost(left, right, false);
+    let first = raster_edge::outermost(e.left, e.right, true);
+    let last = raster_edge::outermost(e.left, e.right, false);
     raster_edge::within(first >> 3, (last >> 3) + 1, x0, x1)
 }
 
@@ -252,19 +228,16 @@ pub fn rows(t: Tri, y0: u32, y1: u32) -> Range
     requires { y0 ≤ y1 }
     ensures { Kept (no_row t) y0 y1 result }
 {
-    let top = t.top;
-    let end = t.end;
-    raster_edge::within(top >> 2, (end >> 2) + 1, y0, y1)
+    raster_edge::within(t.top >> 2, (t.end >> 2) + 1, y0, y1)
 }
 
 // The part of the pixels x0..x1 between the innermost edges: each has all eight samples.
+#[tactic(auto, using(crate::proofs::Innermost::full_pixels))]
 pub fn full(e: Edges, x0: u32, x1: u32) -> Range
     requires { (x0 ≤ x1) × (x1 ≤ 1024) }
     ensures { Inner (all_samples e) x0 x1 result }
 {
-    let left = e.left;
-    let right = e.right;
-    let from = raster_edge::full_from(left);
-    let to = raster_edge::full_to(right);
+    let from = raster_edge::full_from(e.left);
+    let to = raster_edge::full_to(e.right);
     raster_edge::within(from as i64, to as i64, x0, x1)
 }

@@ -1,9 +1,8 @@
--- `raster_edge::quantize` meets its contract: `>> 13`, `& !1`, `& 0x3ffe` and `|` on the bits are floor division and remainder. Assumes nothing.
+-- `>> 13`, `& !1`, `& 0x3ffe` and `|` on the bits are floor division and remainder.
 use Prim.Native.Nat.{ℕ, zero, suc, ◌/◌, ◌*◌, ◌<◌}
 use mathlib.Core.Path.{◌≡◌, refl, ap, ◌∙◌}
 use mathlib.Core.Bool.{Bool, true, false, not}
 use native.Mathlib.Omega.{arith}
-use borrow.Author.Rules.{rules}
 use lib.Dec.{lit<, eqb}
 use borrow.Author.Tests.{ne_eqb}
 use lib.IntN.{ℤ, pos, ◌+ℤ◌}
@@ -13,11 +12,7 @@ use mir.Val.{SFits, bool_byte}
 use mir.ValLaws.{to_z-of_z, sfits_le}
 use Rattle.raster_edge.specs.Edge.{quantized, floor_to, mod_z, sticky}
 use Rattle.raster_edge.proofs.Bits.{or_low, and_field, floor_fits}
-use Rattle.raster_edge.proofs.quantize.Statement.{statement}
-use Rattle.raster_edge.proofs.quantize.Tie as tie
-
-overflow_cast-result : tie.Need-overflow_cast-result
-overflow_cast-result c = search rules
+use Rattle.raster_edge.proofs.quantize.Goals as goal
 
 -- a field of bits that is not 0, as a number
 bit-of : (n : ℕ) → pos (bool_byte (not (eqb (n * 2) 0))) ≡ sticky n
@@ -28,7 +23,7 @@ bit_small : (t : Bool) → bool_byte t < 2
 bit_small true = lit< tt
 bit_small false = lit< tt
 
-returns : tie.Need-returns
+pub returns : goal.returns
 unfolding quantized
 returns c =
     let x = c.args.x in
@@ -39,6 +34,3 @@ returns c =
     let s : b < 2 = bit_small (not (eqb (mod_z x 16384 / 2 * 2) 0)) in
     rw (to_z-of_z w64 x f, and_field 50 13 1 refl x f, or_low 63 1 refl y b g s)
     (to_z-of_z w64 (floor_to y 2 +ℤ pos b) (floor_fits 62 1 refl y b g s) ∙ ap (λ (t : ℤ). floor_to y 2 +ℤ t) (bit-of (mod_z x 16384 / 2)))
-
-pub quantize_spec : {M : Type 1} → statement M
-quantize_spec = tie.close (tie.spec overflow_cast-result returns)
