@@ -3,3 +3,4 @@ pub mod Range
 pub mod Sorted
 pub mod Shade
 pub mod Row
+pub mod Any

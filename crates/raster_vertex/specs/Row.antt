@@ -18,7 +18,7 @@ line_of a b py = record { level = mul binary32 (sub binary32 b.x a.x) (sub binar
 unfoldable pub weight_at : Line → Float → Float
 weight_at l px = sub binary32 l.level (mul binary32 l.rise (sub binary32 px l.x))
 
-unfoldable pub colours_of : Vertex → Rgba
+abbrev pub colours_of : Vertex → Rgba
 colours_of v = record { r = v.r; g = v.g; b = v.b; a = v.a }
 
 abbrev pub row_by : Vertex → Vertex → Vertex → Float → ShadeRow

@@ -6,6 +6,8 @@ ghost use Rattle.std.specs.Prelude.{◌≡◌, ◌<◌};
 ghost use Rattle.raster_vertex.specs.Range.{within, in_range, finite_color};
 ghost use Rattle.raster_vertex.specs.Sorted.{at_or_before, sorted};
 ghost use Rattle.raster_vertex.specs.Shade.{edge_of, area_of, culled_of, shade_of};
+ghost use Rattle.raster_vertex.specs.Row.{colours_of};
+ghost use Rattle.raster_vertex.specs.Any.{AnyOf};
 
 use state::Rgba;
 
@@ -22,7 +24,15 @@ pub struct Vertex {
     pub a: f32,
 }
 
-// Rust's (low..=high).contains(&x). A NaN is nowhere: both tests fail on it.
+// Three vertices, in the draw's order.
+#[derive(Clone, Copy)]
+pub struct Triangle {
+    pub a: Vertex,
+    pub b: Vertex,
+    pub c: Vertex,
+}
+
+// (low..=high).contains(&x); std's, whose contract goes by partial_cmp, was tried, and the proof that it makes these tests did not close. A NaN is nowhere: both tests fail on it.
 fn contains(low: f32, high: f32, x: f32) -> bool
     ensures { result ≡ within low high x }
 {
@@ -35,25 +45,49 @@ impl Vertex {
     {
         contains(-1024.0, 1023.75, self.x) && contains(-2048.0, 2047.75, self.y)
     }
+
+    // Whether no colour is a NaN or an infinity.
+    pub fn has_finite_color(self) -> bool
+        ensures { result ≡ finite_color self }
+    {
+        num_float::is_finite(self.r)
+            && num_float::is_finite(self.g)
+            && num_float::is_finite(self.b)
+            && num_float::is_finite(self.a)
+    }
+
+    pub fn color(self) -> Rgba
+        ensures { result ≡ colours_of self }
+    {
+        Rgba {
+            r: self.r,
+            g: self.g,
+            b: self.b,
+            a: self.a,
+        }
+    }
 }
 
-// Whether no colour is a NaN or an infinity.
-pub fn finite(v: Vertex) -> bool
-    ensures { result ≡ finite_color v }
-{
-    if !num_float::is_finite(v.r) {
-        return false;
+impl Triangle {
+    // Whether the test holds of one of the three.
+    #[tactic(auto, unfolding(crate::specs::Any::AnyOf))]
+    pub fn any<F: Fn(Vertex) -> bool>(self, test: F) -> bool
+        requires { F.IsAlwaysCallable test }
+        ensures { AnyOf (F.post test) self result }
+    {
+        test(self.a) || test(self.b) || test(self.c)
     }
-    if !num_float::is_finite(v.g) {
-        return false;
+
+    // Whether it is skipped, with the vertices in the draw's order. A NaN is not >= 0.0, so such an area is kept.
+    pub fn culled(self, cull: bool) -> bool
+        ensures { result ≡ culled_of cull self.a self.b self.c }
+    {
+        cull && area(self.a, self.b, self.c) >= 0.0
     }
-    if !num_float::is_finite(v.b) {
-        return false;
-    }
-    num_float::is_finite(v.a)
 }
 
 // Twice the area of a, b and the point. Its sign says on which side of the line from a to b the point is.
+#[tactic(auto, unfolding(crate::specs::Shade::edge_of))]
 pub fn edge(a: Vertex, b: Vertex, px: f32, py: f32) -> f32
     ensures { result ≡ edge_of a b px py }
 {
@@ -67,34 +101,21 @@ pub fn area(a: Vertex, b: Vertex, c: Vertex) -> f32
     edge(a, b, c.x, c.y)
 }
 
-// Whether a triangle is skipped, with the vertices in the draw's order. A NaN is not >= 0.0, so such an area is kept.
-pub fn culled(cull: bool, a: Vertex, b: Vertex, c: Vertex) -> bool
-    ensures { result ≡ culled_of cull a b c }
-{
-    cull && area(a, b, c) >= 0.0
-}
-
 // Whether a is at or before b: by y, then x, in total_cmp's order.
+#[tactic(auto, unfolding(crate::specs::Sorted::at_or_before))]
 fn at_or_before(a: Vertex, b: Vertex) -> bool
     ensures { result ≡ at_or_before a b }
 {
-    if num_float::le_total(a.y, b.y) {
-        if num_float::le_total(b.y, a.y) {
-            return num_float::le_total(a.x, b.x);
-        }
-        return true;
-    }
-    false
+    num_float::le_total(a.y, b.y)
+        && (!num_float::le_total(b.y, a.y) || num_float::le_total(a.x, b.x))
 }
 
 // From the top down; vertices at one position keep their order. At most three compares: b against c, then a against the
-// first of them, and where it is not before that, against the other.
+// first of them, and where it is not before that, against the other. (std's sorts take memory.)
 pub fn sort(v: [Vertex; 3]) -> [Vertex; 3]
     ensures { result ≡ sorted v }
 {
-    let a = v[0];
-    let b = v[1];
-    let c = v[2];
+    let [a, b, c] = v;
     if at_or_before(b, c) {
         if at_or_before(a, b) {
             return [a, b, c];
@@ -114,6 +135,7 @@ pub fn sort(v: [Vertex; 3]) -> [Vertex; 3]
 }
 
 // The colour at the upper left corner of pixel x, y. A vertex's weight is the edge across from it.
+#[tactic(auto, using(crate::proofs::Rows::row_shade))]
 pub fn shade(v: [Vertex; 3], x: usize, y: usize) -> Rgba
     requires { (x < 1024) × (y < 1024) }
     ensures { result ≡ shade_of v x y }

@@ -1,7 +1,7 @@
 // The colours of a row's pixels. What turns on the triangle and the row alone is worked out once, and each pixel takes the operations of `shade_of` that are
 // left, in the same order.
 ghost use Rattle.std.specs.Prelude.{◌≡◌, ◌<◌};
-ghost use Rattle.raster_vertex.specs.Row.{line_of, weight_at, colours_of, row_of, shade_on};
+ghost use Rattle.raster_vertex.specs.Row.{line_of, weight_at, row_of, shade_on};
 
 use crate::Vertex;
 use state::Rgba;
@@ -26,6 +26,7 @@ pub struct ShadeRow {
     pub den: f32,
 }
 
+#[tactic(auto, unfolding(crate::specs::Row::line_of))]
 fn line_between(a: Vertex, b: Vertex, py: f32) -> Line
     ensures { result ≡ line_of a b py }
 {
@@ -36,38 +37,26 @@ fn line_between(a: Vertex, b: Vertex, py: f32) -> Line
     }
 }
 
-fn colours(v: Vertex) -> Rgba
-    ensures { result ≡ colours_of v }
-{
-    Rgba {
-        r: v.r,
-        g: v.g,
-        b: v.b,
-        a: v.a,
-    }
-}
-
 // Row y of a triangle.
 pub fn shade_row(v: [Vertex; 3], y: u32) -> ShadeRow
     requires { y < 1024 }
     ensures { result ≡ row_of v y }
 {
-    let a = v[0];
-    let b = v[1];
-    let c = v[2];
+    let [a, b, c] = v;
     let py = y as f32;
     ShadeRow {
         line_a: line_between(b, c, py),
         line_b: line_between(c, a, py),
         line_c: line_between(a, b, py),
-        a: colours(a),
-        b: colours(b),
-        c: colours(c),
+        a: a.color(),
+        b: b.color(),
+        c: c.color(),
         den: crate::area(a, b, c),
     }
 }
 
 impl Line {
+    #[tactic(auto, unfolding(crate::specs::Row::weight_at))]
     fn weight(self, px: f32) -> f32
         ensures { result ≡ weight_at self px }
     {
@@ -82,16 +71,10 @@ impl ShadeRow {
         ensures { result ≡ shade_on self x }
     {
         let px = x as f32;
-        let line_a = self.line_a;
-        let line_b = self.line_b;
-        let line_c = self.line_c;
-        let wa = line_a.weight(px);
-        let wb = line_b.weight(px);
-        let wc = line_c.weight(px);
-        let a = self.a;
-        let b = self.b;
-        let c = self.c;
-        let den = self.den;
+        let wa = self.line_a.weight(px);
+        let wb = self.line_b.weight(px);
+        let wc = self.line_c.weight(px);
+        let Self { a, b, c, den, .. } = self;
         Rgba {
             r: wa * a.r / den + wb * b.r / den + wc * c.r / den,
             g: wa * a.g / den + wb * b.g / den + wc * c.g / den,
