@@ -1,2 +1,2 @@
--- What several proofs of `raster_admitted` and of the crates above it share.
+-- What proofs of the crates above `raster_admitted` share.
 pub mod Choices

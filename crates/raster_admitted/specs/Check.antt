@@ -1,6 +1,6 @@
 -- To be believed. The checks of the Rust's `admitted` on three vertices. Definitions only. Source: writeback.rs, `admitted`, its checks in its order; docs/RULES.md, Admitted draws,
 -- numbers them.
-use Rattle.std.specs.Prelude.{ℕ, ◌+◌, ◌*◌, Bool, true, false, cond, not, ◌&&◌, ◌||◌, List, eqb, ltb, leb, Float, length, get_or}
+use Rattle.std.specs.Prelude.{ℕ, ◌+◌, ◌*◌, Bool, true, false, cond, not, ◌&&◌, ◌||◌, List, eqb, ltb, leb, Float, length, get_or, Option, Some, None, Result, Ok, Err}
 use Rattle.std.specs.Float.{nan}
 use Rattle.std.specs.Float.Ieee.{ne}
 use Rattle.state.specs.declared.Rgba.{Rgba}
@@ -8,13 +8,11 @@ use Rattle.combiner_inputs.specs.declared.AlphaIn.{AlphaIn}
 use Rattle.combiner_inputs.specs.declared.AlphaIn.TheVariants as alpha
 use Rattle.combiner_inputs.specs.declared.CycleSel.{CycleSel}
 use Rattle.combiner.specs.declared.Combiner.{Combiner}
-use Rattle.combiner.specs.declared.Color.{Color}
-use Rattle.combiner.specs.declared.Color.TheVariants as color
 use Rattle.combiner.specs.Combine.{color_of}
 use Rattle.raster_vertex.specs.declared.Vertex.{Vertex}
 use Rattle.raster_vertex.specs.Range.{in_range, finite_color}
-use Rattle.raster_admitted.specs.declared.Looked.{Looked}
-use Rattle.raster_admitted.specs.declared.Looked.TheVariants.{There, Missing}
+use Rattle.raster_admitted.specs.declared.Check.{Check}
+use Rattle.raster_admitted.specs.declared.Check.TheVariants as check
 
 -- vertex i: six floats each, in the order x, y, red, green, blue, alpha
 abbrev pub vertex_at : List Float → ℕ → Vertex
@@ -29,8 +27,8 @@ vertex_at vs i =
     }
 
 -- an index names a vertex if it is below the number of presence flags, its flag is 1, and its floats are there
-unfoldable pub looked_up : List Float → List ℕ → ℕ → Looked
-looked_up vs ps i = cond (ltb i (length ps) && eqb (get_or ps i 0) 1 && leb (6 * i + 6) (length vs)) (There (vertex_at vs i)) Missing
+unfoldable pub looked_up : List Float → List ℕ → ℕ → Option Vertex
+looked_up vs ps i = cond (ltb i (length ps) && eqb (get_or ps i 0) 1 && leb (6 * i + 6) (length vs)) (Some (vertex_at vs i)) None
 
 abbrev pub colour_of : Vertex → Rgba
 colour_of v = record { r = v.r; g = v.g; b = v.b; a = v.a }
@@ -56,14 +54,14 @@ abbrev pub any : (Vertex → Bool) → Vertex → Vertex → Vertex → Bool
 any p a b c = p a || p b || p c
 
 -- a combined colour that there is not, or whose alpha is another one; a NaN differs from itself
-abbrev pub alpha_differs : Float → Color → Bool
-alpha_differs x color.Refused = true
-alpha_differs x (color.Value r g b a) = ne a x
+abbrev pub alpha_differs : Float → Option Rgba → Bool
+alpha_differs x None = true
+alpha_differs x (Some c) = ne c.a x
 
 -- checks 5 and 6, from the combined colour of the first vertex
-abbrev pub alpha_check : Combiner → Vertex → Vertex → Vertex → Color → ℕ
-alpha_check k a b c color.Refused = 5
-alpha_check k a b c (color.Value r g blue x) = cond (any (λ (v : Vertex). alpha_differs x (color_of k (colour_of v))) a b c) 6 0
+abbrev pub alpha_check : Combiner → Vertex → Vertex → Vertex → Option Rgba → ℕ
+alpha_check k a b c None = 5
+alpha_check k a b c (Some first) = cond (any (λ (v : Vertex). alpha_differs first.a (color_of k (colour_of v))) a b c) 6 0
 
 -- The first check that fails, in the Rust's order: 2 position, 3 shade alpha, 4 not finite, 5 no colour, 6 alpha differs; 0 for none
 unfoldable pub check_of : Combiner → Vertex → Vertex → Vertex → ℕ
@@ -72,3 +70,13 @@ check_of k a b c =
     (cond (uses_shade k.selectors && any (λ (v : Vertex). ne v.a a.a) a b c) 3
     (cond (any (λ (v : Vertex). not (finite_color v)) a b c) 4
     (alpha_check k a b c (color_of k (colour_of a)))))
+
+-- the number of the check that fails; 0 for none
+abbrev pub check_number : Result Unit Check → ℕ
+check_number (Ok u) = 0
+check_number (Err check.Missing) = 1
+check_number (Err check.OutOfRange) = 2
+check_number (Err check.ShadesDiffer) = 3
+check_number (Err check.NotFinite) = 4
+check_number (Err check.NoColor) = 5
+check_number (Err check.AlphasDiffer) = 6

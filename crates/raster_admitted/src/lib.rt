@@ -5,181 +5,121 @@ ghost use Rattle.std.specs.Prelude.{◌≡◌, not};
 ghost use Rattle.std.specs.Float.Ieee.{ne};
 ghost use Rattle.raster_vertex.specs.Range.{in_range, finite_color};
 ghost use Rattle.combiner.specs.Combine.{color_of};
-ghost use Rattle.raster_admitted.specs.Check.{looked_up, colour_of, is_shade, uses_shade, any, alpha_differs, alpha_check, check_of};
+ghost use Rattle.raster_admitted.specs.Check.{looked_up, colour_of, is_shade, uses_shade, any, alpha_differs, check_number, alpha_check, check_of};
 
-use combiner::{Color, Combiner};
+use combiner::Combiner;
 use combiner_inputs::{AlphaIn, CycleSel};
-use raster_vertex::Vertex;
+use raster_vertex::{Triangle, Vertex};
 use state::Rgba;
 
-// A vertex that an index names, if there is one.
-#[derive(Clone, Copy)]
-pub enum Looked {
-    There(Vertex),
-    Missing,
+// The checks of a triangle by their numbers, in the Rust's order.
+#[derive(Clone, Copy, Debug, PartialEq, Eq)]
+pub enum Check {
+    Missing = 1, // a vertex
+    OutOfRange = 2,
+    ShadesDiffer = 3, // the alphas of the shades
+    NotFinite = 4,
+    NoColor = 5,
+    AlphasDiffer = 6, // of the combined colours
 }
 
 // The vertex that an index names: its presence flag is 1 and its six floats are there.
-pub fn look_up(vertices: &[f32], present: &[u8], index: u32) -> Looked
+#[tactic(auto, unfolding(crate::specs::Check::looked_up))]
+pub fn look_up(vertices: &[f32], present: &[u8], index: u32) -> Option<Vertex>
     ensures { result ≡ looked_up vertices.now present.now index }
 {
     let i = index as usize;
-    if present.len() <= i {
-        return Looked::Missing;
-    }
-    if present[i] != 1 {
-        return Looked::Missing;
-    }
     let at = 6 * i;
-    if vertices.len() < at + 6 {
-        return Looked::Missing;
+    if *present.get(i)? != 1 || vertices.len() < at + 6 {
+        return None;
     }
-    let x = vertices[at];
-    let y = vertices[at + 1];
-    let r = vertices[at + 2];
-    let g = vertices[at + 3];
-    let b = vertices[at + 4];
-    let a = vertices[at + 5];
-    Looked::There(Vertex { x, y, r, g, b, a })
+    Some(Vertex {
+        x: vertices[at],
+        y: vertices[at + 1],
+        r: vertices[at + 2],
+        g: vertices[at + 3],
+        b: vertices[at + 4],
+        a: vertices[at + 5],
+    })
 }
 
-pub fn colour(v: Vertex) -> Rgba
-    ensures { result ≡ colour_of v }
-{
-    Rgba {
-        r: v.r,
-        g: v.g,
-        b: v.b,
-        a: v.a,
-    }
-}
-
+#[tactic(auto, unfolding(combiner_inputs::specs::Inputs::alpha_number))]
 fn is_shade(input: AlphaIn) -> bool
     ensures { result ≡ is_shade input }
 {
-    if let AlphaIn::Shade = input {
-        true
-    } else {
-        false
-    }
+    input == AlphaIn::Shade
 }
 
 // Whether an alpha selector is Shade.
+#[tactic(auto, unfolding(crate::specs::Check::uses_shade))]
 fn reads_shade(s: CycleSel) -> bool
     ensures { result ≡ uses_shade s }
 {
-    let aa = s.aa;
-    if is_shade(aa) {
-        return true;
-    }
-    let ab = s.ab;
-    if is_shade(ab) {
-        return true;
-    }
-    let ac = s.ac;
-    if is_shade(ac) {
-        return true;
-    }
-    let ad = s.ad;
-    is_shade(ad)
+    is_shade(s.aa) || is_shade(s.ab) || is_shade(s.ac) || is_shade(s.ad)
 }
 
 // Whether a combined colour is missing or has another alpha.
-fn alpha_differs(alpha: f32, color: Color) -> bool
+fn alpha_differs(alpha: f32, color: Option<Rgba>) -> bool
     ensures { result ≡ alpha_differs alpha color }
 {
-    let Color::Value(_, _, _, a) = color else {
-        return true;
-    };
-    a != alpha
+    match color {
+        Some(color) => color.a != alpha,
+        None => true,
+    }
 }
 
 // Check 2.
-pub fn out_of_range(a: Vertex, b: Vertex, c: Vertex) -> bool
-    ensures { result ≡ any (λ v. not (in_range v)) a b c }
+pub fn out_of_range(t: Triangle) -> bool
+    ensures { result ≡ any (λ v. not (in_range v)) t.a t.b t.c }
 {
-    if !a.in_range() {
-        return true;
-    }
-    if !b.in_range() {
-        return true;
-    }
-    !c.in_range()
+    t.any(|v| !v.in_range())
 }
 
 // Check 3, where an alpha selector is Shade. A NaN differs from itself.
-fn shades_differ(a: Vertex, b: Vertex, c: Vertex) -> bool
-    ensures { result ≡ any (λ v. ne v.a a.a) a b c }
+fn shades_differ(t: Triangle) -> bool
+    ensures { result ≡ any (λ v. ne v.a t.a.a) t.a t.b t.c }
 {
-    if a.a != a.a {
-        return true;
-    }
-    if b.a != a.a {
-        return true;
-    }
-    c.a != a.a
+    t.any(|v| v.a != t.a.a)
 }
 
 // Check 4.
-fn not_finite(a: Vertex, b: Vertex, c: Vertex) -> bool
-    ensures { result ≡ any (λ v. not (finite_color v)) a b c }
+fn not_finite(t: Triangle) -> bool
+    ensures { result ≡ any (λ v. not (finite_color v)) t.a t.b t.c }
 {
-    if !raster_vertex::finite(a) {
-        return true;
-    }
-    if !raster_vertex::finite(b) {
-        return true;
-    }
-    !raster_vertex::finite(c)
-}
-
-fn differs_from(combiner: Combiner, alpha: f32, v: Vertex) -> bool
-    ensures { result ≡ alpha_differs alpha (color_of combiner (colour_of v)) }
-{
-    alpha_differs(alpha, combiner.color(colour(v)))
+    t.any(|v| !v.has_finite_color())
 }
 
 // Check 6.
-fn alphas_differ(combiner: Combiner, alpha: f32, a: Vertex, b: Vertex, c: Vertex) -> bool
-    ensures { result ≡ any (λ v. alpha_differs alpha (color_of combiner (colour_of v))) a b c }
+fn alphas_differ(combiner: Combiner, alpha: f32, t: Triangle) -> bool
+    ensures { result ≡ any (λ v. alpha_differs alpha (color_of combiner (colour_of v))) t.a t.b t.c }
 {
-    if differs_from(combiner, alpha, a) {
-        return true;
-    }
-    if differs_from(combiner, alpha, b) {
-        return true;
-    }
-    differs_from(combiner, alpha, c)
+    t.any(|v| alpha_differs(alpha, combiner.color(v.color())))
 }
 
 // Checks 5 and 6.
-fn alpha_check(combiner: Combiner, a: Vertex, b: Vertex, c: Vertex) -> u8
-    ensures { result ≡ alpha_check combiner a b c (color_of combiner (colour_of a)) }
+fn alpha_check(combiner: Combiner, t: Triangle) -> Result<(), Check>
+    ensures { check_number result ≡ alpha_check combiner t.a t.b t.c (color_of combiner (colour_of t.a)) }
 {
-    let Color::Value(_, _, _, alpha) = combiner.color(colour(a)) else {
-        return 5;
-    };
-    if alphas_differ(combiner, alpha, a, b, c) {
-        return 6;
+    let color = combiner.color(t.a.color()).ok_or(Check::NoColor)?;
+    if alphas_differ(combiner, color.a, t) {
+        return Err(Check::AlphasDiffer);
     }
-    0
+    Ok(())
 }
 
-// The first check of a triangle that fails, in the Rust's order; 0 for none.
-pub fn check(combiner: Combiner, a: Vertex, b: Vertex, c: Vertex) -> u8
-    ensures { result ≡ check_of combiner a b c }
+// The first of checks 2 to 6 of a triangle that fails, in the Rust's order.
+#[tactic(auto, unfolding(crate::specs::Check::check_of))]
+pub fn checks(combiner: Combiner, t: Triangle) -> Result<(), Check>
+    ensures { check_number result ≡ check_of combiner t.a t.b t.c }
 {
-    if out_of_range(a, b, c) {
-        return 2;
+    if out_of_range(t) {
+        return Err(Check::OutOfRange);
     }
-    let selectors = combiner.selectors;
-    if reads_shade(selectors) {
-        if shades_differ(a, b, c) {
-            return 3;
-        }
+    if reads_shade(combiner.selectors) && shades_differ(t) {
+        return Err(Check::ShadesDiffer);
     }
-    if not_finite(a, b, c) {
-        return 4;
+    if not_finite(t) {
+        return Err(Check::NotFinite);
     }
-    alpha_check(combiner, a, b, c)
+    alpha_check(combiner, t)
 }

@@ -1,0 +1,11 @@
+-- What the test answers of each vertex.
+use mathlib.Core.Bool.{not}
+use borrow.Author.Rules.{rules}
+use Rattle.raster_vertex.specs.declared.Vertex.{Vertex}
+use Rattle.raster_vertex.specs.Any.{AnyOf}
+use Rattle.raster_vertex.specs.Range.{in_range}
+use Rattle.raster_admitted.proofs.out_of_range.Goals as goal
+
+pub returns : goal.returns
+unfolding AnyOf
+returns c = c.any.ensures (λ (v : Vertex). not (in_range v)) (λ v b h. search rules)
