@@ -11,22 +11,38 @@ use lib.Ieee.{Float}
 use lib.ListN.{length}
 use Rattle.combiner.specs.declared.Combiner.{Combiner}
 use Rattle.raster_vertex.specs.declared.Vertex.{Vertex}
+use Rattle.raster_vertex.specs.declared.Triangle.{Triangle}
 use Rattle.raster_vertex.specs.Range.{in_range}
 use Rattle.raster_vertex.specs.Sorted.{sorted}
 use Rattle.num_float.proofs.Tests.{both_left, both_right}
 use Rattle.raster_vertex.proofs.Quarters.{quarter_x, quarter_y}
 use Rattle.raster_vertex.proofs.Ordered.{Each, InRange, sorted_length, sorted_each}
 use Rattle.raster_edges.specs.Limits.{Near, AllNear}
-use Rattle.raster_pixel.specs.declared.Three.{Three}
-use Rattle.raster_pixel.specs.declared.Three.TheVariants.{Vertices, Absent}
+use Rattle.std.specs.Prelude.{Option, Some, None, Result, Ok, Err}
+use Rattle.std.specs.Result.{is_err}
 use Rattle.raster_pixel.specs.declared.Geometry.TheVariants.{Triangles}
-use Rattle.raster_admitted.specs.Check.{any, check_of}
+use Rattle.raster_admitted.specs.declared.Check.{Check}
+use Rattle.raster_admitted.specs.declared.Check.TheVariants as check
+use Rattle.raster_admitted.specs.Check.{any, check_number, check_of}
 use Rattle.raster_pixel.specs.Admitted.{triangle_at, check_three, failing, all, admitted_of}
 use Rattle.raster_pixel.specs.Emitted.{corner_of}
 
 -- triangle i has no failing check
 abbrev pub sound : Combiner → List Float → List ℕ → List ℕ → ℕ → Bool
 sound k vs ps is i = eqb (failing k vs ps is i) 0
+
+-- an answer is an error where its check's number is not 0
+by_number : (r : Result Unit Check) → eqb (check_number r) 0 ≡ not (is_err r)
+by_number (Ok u) = refl
+by_number (Err check.Missing) = refl
+by_number (Err check.OutOfRange) = refl
+by_number (Err check.ShadesDiffer) = refl
+by_number (Err check.NotFinite) = refl
+by_number (Err check.NoColor) = refl
+by_number (Err check.AlphasDiffer) = refl
+
+pub number_tells : (r : Result Unit Check) (n : ℕ) (b : Bool) → check_number r ≡ n → is_err r ≡ b → eqb n 0 ≡ not b
+number_tells r n b e h = subst (λ (m : ℕ). eqb m 0 ≡ not b) e (by_number r ∙ ap not h)
 
 -- ---- p of the numbers from i up to n
 pub all_whole : (p : ℕ → Bool) (n : ℕ) → all p (n - 0) 0 ≡ all p n 0
@@ -72,9 +88,9 @@ all_at p (suc n) i h j a b = by (dec_le (i + 1) j) (λ k. all_at p n (i + 1) (bo
         ap p e ∙ both_left (p i) (all p n (i + 1)) h
 
 -- ---- a triangle with no failing check: its vertices are there and in range
-abbrev pub AllIn : Three → Type 0
-AllIn Absent = ⊥
-AllIn (Vertices a b c) = Each InRange (a ∷ b ∷ c ∷ [])
+abbrev pub AllIn : Option Triangle → Type 0
+AllIn None = ⊥
+AllIn (Some t) = Each InRange (t.a ∷ t.b ∷ t.c ∷ [])
 
 -- a check's number is not 0
 not_chosen : (t : Bool) (x : ℕ) → cond t 2 x ≡ 0 → t ≡ false
@@ -85,16 +101,16 @@ neither : (s t : Bool) → s || t ≡ false → (s ≡ false) × (t ≡ false)
 neither true t h = absurd (true≢false h)
 neither false t h = (refl, h)
 
-pub placed : (a b c : Vertex) → any (λ (v : Vertex). not (in_range v)) a b c ≡ false → AllIn (Vertices a b c)
-placed a b c h =
-    let p = neither (not (in_range a) || not (in_range b)) (not (in_range c)) h in
-    let q = neither (not (in_range a)) (not (in_range b)) p.0 in
-    (not-false (in_range a) q.0, (not-false (in_range b) q.1, (not-false (in_range c) p.1, tt)))
+pub placed : (t : Triangle) → any (λ (v : Vertex). not (in_range v)) t.a t.b t.c ≡ false → AllIn (Some t)
+placed t h =
+    let p = neither (not (in_range t.a) || not (in_range t.b)) (not (in_range t.c)) h in
+    let q = neither (not (in_range t.a)) (not (in_range t.b)) p.0 in
+    (not-false (in_range t.a) q.0, (not-false (in_range t.b) q.1, (not-false (in_range t.c) p.1, tt)))
 
-all_in : (k : Combiner) (t : Three) → check_three k t ≡ 0 → AllIn t
+all_in : (k : Combiner) (t : Option Triangle) → check_three k t ≡ 0 → AllIn t
 unfolding check_of
-all_in k Absent h = absurd (omega arith)
-all_in k (Vertices a b c) h = placed a b c (not_chosen _ _ h)
+all_in k None h = absurd (omega arith)
+all_in k (Some t) h = placed t (not_chosen _ _ h)
 
 pub sound_in : (k : Combiner) (vs : List Float) (ps is : List ℕ) (i : ℕ) → failing k vs ps is i ≡ 0 → AllIn (triangle_at vs ps is i)
 unfolding failing
@@ -116,5 +132,5 @@ near_three (a ∷ b ∷ []) h r = absurd (omega arith)
 near_three (a ∷ b ∷ c ∷ []) h r = record { a_near = near a r.0; b_near = near b r.1.0; c_near = near c r.1.1.0 }
 near_three (a ∷ b ∷ c ∷ d ∷ v) h r = absurd (omega arith)
 
-pub sorted_near : (a b c : Vertex) → AllIn (Vertices a b c) → AllNear (map corner_of (sorted (a ∷ b ∷ c ∷ [])))
-sorted_near a b c r = near_three (sorted (a ∷ b ∷ c ∷ [])) (sorted_length (a ∷ b ∷ c ∷ [])) (sorted_each InRange (a ∷ b ∷ c ∷ []) r)
+pub sorted_near : (t : Triangle) → AllIn (Some t) → AllNear (map corner_of (sorted (t.a ∷ t.b ∷ t.c ∷ [])))
+sorted_near t r = let v = t.a ∷ t.b ∷ t.c ∷ [] in near_three (sorted v) (sorted_length v) (sorted_each InRange v r)

@@ -39,4 +39,4 @@ module _ (a b c : Vertex) {v : List Vertex} (ev : v ≡ sorted (a ∷ b ∷ c �
 
 -- those of an admitted list are
 pub admitted_near : (k : Combiner) (vs : List Float) (ps is : List ℕ) → admitted_of k Triangles vs ps is ≡ true → TrianglesNear vs ps is
-admitted_near k vs ps is h i l a b c e = sorted_near a b c (subst AllIn e (admitted_in k vs ps is h i l))
+admitted_near k vs ps is h i l t e = sorted_near t (subst AllIn e (admitted_in k vs ps is h i l))

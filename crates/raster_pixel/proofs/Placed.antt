@@ -12,22 +12,19 @@ use lib.Ieee.{Float}
 use lib.ListN.{length}
 use Rattle.state.specs.declared.RenderMode.{RenderMode}
 use Rattle.combiner.specs.declared.Combiner.{Combiner}
-use Rattle.combiner.specs.declared.Color.{Color}
-use Rattle.combiner.specs.declared.Color.TheVariants as color
+use Rattle.state.specs.declared.Rgba.{Rgba}
+use Rattle.std.specs.Prelude.{Option, Some, None}
 use Rattle.combiner.specs.Combine.{color_of, full_shade}
 use Rattle.raster_vertex.specs.Sorted.{sorted}
 use Rattle.raster_vertex.specs.Shade.{culled_of, shade_of}
 use Rattle.raster_edges.specs.Edge.{area_of}
 use Rattle.raster_edges.specs.Sample.{mask_of}
 use Rattle.raster_edges.specs.Span.{tri_of, edges_of}
-use Rattle.raster_rectangle.specs.declared.Sides.{Sides}
 use Rattle.raster_rectangle.specs.Rectangle.{rect_mask}
 use Rattle.raster_pixel.specs.declared.Scissor.{Scissor}
-use Rattle.raster_pixel.specs.declared.Fragment.TheVariants.{Empty}
 use Rattle.raster_pixel.specs.declared.Geometry.{Geometry}
 use Rattle.raster_pixel.specs.declared.Geometry.TheVariants.{Nothing, Triangles, Rectangle}
-use Rattle.raster_pixel.specs.declared.Three.{Three}
-use Rattle.raster_pixel.specs.declared.Three.TheVariants.{Vertices, Absent}
+use Rattle.raster_vertex.specs.declared.Triangle.{Triangle}
 use Rattle.raster_pixel.specs.Admitted.{triangle_at}
 use Rattle.raster_pixel.specs.Parts.{parts, from}
 use Rattle.raster_pixel.specs.Emitted.{Emit, shown, covered, emits, inside, corner_of, triangle_fragment, triangle_emits, three_emits, rectangle_fragment, rectangle_emits, geometry_emits}
@@ -54,14 +51,14 @@ module _ {n : ℕ} where
 
   -- a pixel by its samples
   placed_shown :
-      (antialias : Bool) (mask : ℕ) (c : Color) (shade : Float) (p : ℕ) → mask < 256 → p < n
-      → Placed n (emits (cond (shown antialias mask) (covered mask c shade) Empty) p)
+      (antialias : Bool) (mask : ℕ) (c : Option Rgba) (shade : Float) (p : ℕ) → mask < 256 → p < n
+      → Placed n (emits (cond (shown antialias mask) (covered mask c shade) None) p)
   placed_shown antialias mask c shade p l h = go (shown antialias mask) refl c
     where
-      go : (b : Bool) → shown antialias mask ≡ b → (c : Color) → Placed n (emits (cond b (covered mask c shade) Empty) p)
+      go : (b : Bool) → shown antialias mask ≡ b → (c : Option Rgba) → Placed n (emits (cond b (covered mask c shade) None) p)
       go false e c = Placed.none
-      go true e color.Refused = Placed.none
-      go true e (color.Value r g b a) = Placed.more h (shown_some antialias mask e, l) Placed.none
+      go true e None = Placed.none
+      go true e (Some c) = Placed.more h (shown_some antialias mask e, l) Placed.none
 
   -- a list or none
   placed_cond : (b : Bool) (es : List Emit) → Placed n es → Placed n (cond b [] es)
@@ -80,13 +77,13 @@ module _ (s : Scissor) (w h : ℕ) where
       c y x (pixel_in w h y x (omega arith) (omega arith))))
 
   module _ (m : RenderMode) (k : Combiner) (cull : Bool) where
-    placed_three : (t : Three) → Placed (w * h) (three_emits m k cull s w h t)
+    placed_three : (t : Option Triangle) → Placed (w * h) (three_emits m k cull s w h t)
     unfolding triangle_emits triangle_fragment
-    placed_three Absent = Placed.none
-    placed_three (Vertices a b c) =
-        let o = sorted (a ∷ b ∷ c ∷ []) in
+    placed_three None = Placed.none
+    placed_three (Some t) =
+        let o = sorted (t.a ∷ t.b ∷ t.c ∷ []) in
         let corners = map corner_of o in
-        placed_cond (culled_of cull a b c || eqb (nat_abs (area_of corners)) 0) _
+        placed_cond (culled_of cull t.a t.b t.c || eqb (nat_abs (area_of corners)) 0) _
         (placed_inside _ (λ (y x : ℕ) l.
         let e = edges_of (tri_of corners) y in
         placed_shown m.antialias (mask_of e x) (color_of k (shade_of o x y)) (shade_of o x y).a (y * w + x) (mask_lt e x) l))
@@ -95,8 +92,7 @@ module _ (s : Scissor) (w h : ℕ) where
     pub geometry_placed : (vs : List Float) (ps is : List ℕ) (g : Geometry) → Placed (w * h) (geometry_emits m k cull s w h vs ps is g)
     unfolding rectangle_emits rectangle_fragment
     geometry_placed vs ps is Nothing = Placed.none
-    geometry_placed vs ps is (Rectangle l t r b) =
-        let sides : Sides = record { left = l; top = t; right = r; bottom = b } in
+    geometry_placed vs ps is (Rectangle sides) =
         placed_inside _ (λ (y x : ℕ) p. placed_shown m.antialias (rect_mask sides x y) (color_of k full_shade) full_shade.a (y * w + x) (rect_lt sides x y) p)
     geometry_placed vs ps is Triangles =
         placed_from (λ (i : ℕ). three_emits m k cull s w h (triangle_at vs ps is i)) 0 (length is / 3) (λ i p. placed_three (triangle_at vs ps is i))

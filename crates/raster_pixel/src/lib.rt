@@ -2,15 +2,18 @@
 // scissor, and which of them are shown.
 #![tactic(auto)]
 
-ghost use Rattle.std.specs.Prelude.{◌≡◌, map, ◌+◌, ◌*◌, ◌<◌, min, length};
+ghost use Rattle.std.specs.Prelude.{◌≡◌, map, ◌+◌, ◌*◌, ◌<◌, length};
+ghost use Rattle.raster_admitted.specs.Check.{check_number};
 ghost use Rattle.raster_pixel.specs.Area.{Sized, area_of};
 ghost use Rattle.raster_pixel.specs.Admitted.{triangle_at, failing, admitted_of};
 ghost use Rattle.raster_pixel.specs.Emitted.{shown, corner_of};
 
 use combiner::Combiner;
-use raster_admitted::Looked;
+use raster_admitted::Check;
 use raster_edges::Corner;
-use raster_vertex::Vertex;
+use raster_rectangle::Sides;
+use raster_vertex::{Triangle, Vertex};
+use state::Rgba;
 
 pub mod row; // the parts of a row
 
@@ -33,100 +36,74 @@ pub struct Area {
     pub bottom: u32,
 }
 
-// What a draw covers: a rectangle carries its left, top, right and bottom sides.
+// What a draw covers.
 #[derive(Clone, Copy)]
 pub enum Geometry {
     Nothing,
     Triangles,
-    Rectangle(f32, f32, f32, f32),
-}
-
-// A triangle's vertices, if all are there.
-#[derive(Clone, Copy)]
-pub enum Three {
-    Vertices(Vertex, Vertex, Vertex),
-    Absent,
+    Rectangle(Sides),
 }
 
 // What a pixel emits: its sample mask, its combined colour and its shade alpha.
 #[derive(Clone, Copy)]
-pub enum Fragment {
-    Empty,
-    Covered(u8, f32, f32, f32, f32, f32),
-}
-
-// The smaller of two.
-fn least(a: u32, b: u32) -> u32
-    ensures { result ≡ min a b }
-{
-    if a < b {
-        return a;
-    }
-    b
+pub struct Fragment {
+    pub mask: u8,
+    pub color: Rgba,
+    pub shade_alpha: f32,
 }
 
 // The pixels of a frame inside the scissor. Where it starts past the frame's end, the area ends where it starts.
+#[tactic(auto, unfolding(crate::specs::Area::area_of))]
 pub fn scissor_area(scissor: Scissor, width: u32, height: u32) -> Area
     requires { Sized scissor width height }
     ensures { result ≡ area_of scissor width height }
 {
-    let right = least(width, scissor.left + scissor.width);
-    let bottom = least(height, scissor.top + scissor.height);
-    let left = least(scissor.left, right);
-    let top = least(scissor.top, bottom);
+    let right = width.min(scissor.left + scissor.width);
+    let bottom = height.min(scissor.top + scissor.height);
     Area {
-        left,
-        top,
+        left: scissor.left.min(right),
+        top: scissor.top.min(bottom),
         right,
         bottom,
     }
 }
 
-// Triangle i of an index list.
-pub fn triangle_at(vertices: &[f32], present: &[u8], indices: &[u32], i: usize) -> Three
+// Triangle i of an index list, if all its vertices are there.
+#[tactic(auto, unfolding(crate::specs::Admitted::triangle_at))]
+pub fn triangle_at(vertices: &[f32], present: &[u8], indices: &[u32], i: usize) -> Option<Triangle>
     requires { 3 * i + 2 < length indices.now }
     ensures { result ≡ triangle_at vertices.now present.now indices.now i }
 {
     let at = 3 * i;
-    let i0 = indices[at];
-    let i1 = indices[at + 1];
-    let i2 = indices[at + 2];
-    let Looked::There(a) = raster_admitted::look_up(vertices, present, i0) else {
-        return Three::Absent;
-    };
-    let Looked::There(b) = raster_admitted::look_up(vertices, present, i1) else {
-        return Three::Absent;
-    };
-    let Looked::There(c) = raster_admitted::look_up(vertices, present, i2) else {
-        return Three::Absent;
-    };
-    Three::Vertices(a, b, c)
+    Some(Triangle {
+        a: raster_admitted::look_up(vertices, present, indices[at])?,
+        b: raster_admitted::look_up(vertices, present, indices[at + 1])?,
+        c: raster_admitted::look_up(vertices, present, indices[at + 2])?,
+    })
 }
 
-// The first check of triangle i that fails: 1 where a vertex is missing.
+// The first check of triangle i that fails.
+#[tactic(auto, unfolding(crate::specs::Admitted::failing))]
 pub fn failing_check(
     combiner: Combiner,
     vertices: &[f32],
     present: &[u8],
     indices: &[u32],
     i: usize,
-) -> u8
+) -> Result<(), Check>
     requires { 3 * i + 2 < length indices.now }
-    ensures { result ≡ failing combiner vertices.now present.now indices.now i }
+    ensures { check_number result ≡ failing combiner vertices.now present.now indices.now i }
 {
-    let Three::Vertices(a, b, c) = triangle_at(vertices, present, indices, i) else {
-        return 1;
-    };
-    raster_admitted::check(combiner, a, b, c)
+    let t = triangle_at(vertices, present, indices, i).ok_or(Check::Missing)?;
+    raster_admitted::checks(combiner, t)
 }
 
 // Whether no triangle has a failing check.
 fn triangles_admitted(combiner: Combiner, vertices: &[f32], present: &[u8], indices: &[u32]) -> bool
     ensures { result ≡ admitted_of combiner Geometry.Triangles vertices.now present.now indices.now }
 {
-    let count = indices.len() / 3;
-    for i in 0..count {
-        if failing_check(combiner, vertices, present, indices, i) != 0 {
+    for i in 0..indices.len() / 3 {
+        if failing_check(combiner, vertices, present, indices, i).is_err() {
             return false;
         }
     }
@@ -134,6 +111,7 @@ fn triangles_admitted(combiner: Combiner, vertices: &[f32], present: &[u8], indi
 }
 
 // Every rectangle is admitted, and triangles of which none has a failing check.
+#[tactic(auto, unfolding(crate::specs::Admitted::admitted_of))]
 pub fn admitted(
     combiner: Combiner,
     geometry: Geometry,
@@ -145,7 +123,7 @@ pub fn admitted(
 {
     match geometry {
         Geometry::Nothing => false,
-        Geometry::Rectangle(_, _, _, _) => true,
+        Geometry::Rectangle(_) => true,
         Geometry::Triangles => triangles_admitted(combiner, vertices, present, indices),
     }
 }
@@ -160,24 +138,18 @@ fn corner(v: Vertex) -> Corner
     }
 }
 
+#[tactic(auto, using(crate::proofs::Mapped::map_three))]
 pub fn corners(v: [Vertex; 3]) -> [Corner; 3]
     ensures { result ≡ map corner_of v }
 {
-    let a = v[0];
-    let b = v[1];
-    let c = v[2];
+    let [a, b, c] = v;
     [corner(a), corner(b), corner(c)]
 }
 
 // Whether a pixel with these samples is emitted.
+#[tactic(auto, using(crate::proofs::Masks::high_bit))]
 pub fn is_shown(antialias: bool, mask: u8) -> bool
     ensures { result ≡ shown antialias mask }
 {
-    if mask == 0 {
-        return false;
-    }
-    if antialias {
-        return true;
-    }
-    mask & 0x80 != 0
+    mask != 0 && (antialias || mask & 0x80 != 0)
 }

@@ -30,14 +30,9 @@ pub fn part_end(runs: bool, full: Range, x: u32, end: u32) -> u32
     ensures run { x + 1 < result → (runs ≡ true) × (full.start ≤ x) × (result ≤ full.end) }
 {
     let next = x + 1;
-    if !runs {
-        return next;
+    if runs && x == full.start && next < full.end {
+        full.end
+    } else {
+        next
     }
-    if x != full.start {
-        return next;
-    }
-    if next < full.end {
-        return full.end;
-    }
-    next
 }
