@@ -2,16 +2,17 @@
 #![tactic(auto)]
 
 ghost use Rattle.std.specs.Prelude.{◌≡◌};
-ghost use Rattle.writeback_pixel.specs.Refusal.{refused};
+ghost use Rattle.writeback_pixel.specs.Refusal.{accepted, turned_away};
 ghost use Rattle.writeback_pixel.specs.Calls.{destination_means, answer_means, blend_means, pack_color_means, encode_means};
 ghost use Rattle.combiner.specs.Means.{no_color, no_combiner, made_means, color_means, strict_means};
 ghost use Rattle.c_types.specs.Convert.{parts_of};
 ghost use Rattle.c_answers.specs.Answers.{same, bit, four_bytes, two_bytes, answer_of, strict_answer, color_answer, combiner_answer};
 
-use c_types::{Parts, parts_of};
-use combiner::{Color, Made, Strict};
-use state::Rgba;
-use writeback_pixel::{Blended, Encoded, Packed, Stored};
+use c_types::Parts;
+use combiner::Combiner;
+use refused::Refusal;
+use state::{Rgba, Rgba8};
+use words_pack::Bytes2;
 
 // The number (docs/RULES.md) and the value: a coverage, 1 for yes, a word, or bytes with the first lowest.
 #[repr(C)]
@@ -45,97 +46,92 @@ pub struct CombinerAnswer {
     pub combiner: Parts,
 }
 
-// The number of a call that is turned away for its arguments.
-const REFUSED: u32 = 11;
+impl Answer {
+    fn accepted(value: u32) -> Answer
+        ensures { result ≡ answer_of same (accepted value) }
+    {
+        Answer { number: 0, value }
+    }
+
+    pub fn turned_away(why: Refusal) -> Answer
+        ensures { result ≡ answer_of same (turned_away why 0) }
+    {
+        Answer {
+            number: why.number() as u32,
+            value: 0,
+        }
+    }
+}
 
 // ---- of single-pixel calls
 
-pub fn turned_away() -> Answer
-    ensures { result ≡ answer_of same (refused 0) }
-{
-    let value = 0;
-    Answer {
-        number: REFUSED,
-        value,
-    }
-}
+impl From<Result<bool, Refusal>> for Answer {
+    ghost from_gives = { λ told answer. answer ≡ answer_of bit (answer_means told) };
 
-pub fn yes_or_no(answer: writeback_pixel::Answer) -> Answer
-    ensures { result ≡ answer_of bit (answer_means answer) }
-{
-    match answer {
-        writeback_pixel::Answer::Yes => Answer {
-            number: 0,
-            value: 1,
-        },
-        writeback_pixel::Answer::No => Answer {
-            number: 0,
-            value: 0,
-        },
-        writeback_pixel::Answer::Refused => turned_away(),
-    }
-}
-
-pub fn stored(answer: Stored) -> Answer
-    ensures { result ≡ answer_of same (destination_means answer) }
-{
-    match answer {
-        Stored::Coverage(coverage) => Answer {
-            number: 0,
-            value: coverage as u32,
-        },
-        Stored::Refused => turned_away(),
-    }
-}
-
-pub fn blended(answer: Blended) -> Answer
-    ensures { result ≡ answer_of four_bytes (blend_means answer) }
-{
-    match answer {
-        Blended::Bytes(r, g, b, a) => {
-            let low = (r as u32) + (g as u32) * 0x100;
-            let value = low + (b as u32) * 0x10000 + (a as u32) * 0x1000000;
-            Answer { number: 0, value }
+    fn from(told: Result<bool, Refusal>) -> Answer {
+        match told {
+            Ok(yes) => Answer::accepted(yes as u32),
+            Err(why) => Answer::turned_away(why),
         }
-        Blended::Refused => turned_away(),
     }
 }
 
-pub fn packed(answer: Packed) -> Answer
-    ensures { result ≡ answer_of same (pack_color_means answer) }
-{
-    match answer {
-        Packed::Word(word) => Answer {
-            number: 0,
-            value: word as u32,
-        },
-        Packed::Refused => turned_away(),
-    }
-}
+// A coverage.
+impl From<Result<u8, Refusal>> for Answer {
+    ghost from_gives = { λ coverage answer. answer ≡ answer_of same (destination_means coverage) };
 
-pub fn encoded(answer: Encoded) -> Answer
-    ensures { result ≡ answer_of two_bytes (encode_means answer) }
-{
-    match answer {
-        Encoded::Bytes(first, second) => {
-            let value = (first as u32) + (second as u32) * 0x100;
-            Answer { number: 0, value }
+    fn from(coverage: Result<u8, Refusal>) -> Answer {
+        match coverage {
+            Ok(coverage) => Answer::accepted(coverage as u32),
+            Err(why) => Answer::turned_away(why),
         }
-        Encoded::Refused => turned_away(),
+    }
+}
+
+// A colour's word.
+impl From<Result<u16, Refusal>> for Answer {
+    ghost from_gives = { λ word answer. answer ≡ answer_of same (pack_color_means word) };
+
+    fn from(word: Result<u16, Refusal>) -> Answer {
+        match word {
+            Ok(word) => Answer::accepted(word as u32),
+            Err(why) => Answer::turned_away(why),
+        }
+    }
+}
+
+impl From<Result<Rgba8, Refusal>> for Answer {
+    ghost from_gives = { λ color answer. answer ≡ answer_of four_bytes (blend_means color) };
+
+    fn from(color: Result<Rgba8, Refusal>) -> Answer {
+        match color {
+            Ok(c) => Answer::accepted(u32::from_le_bytes([c.r, c.g, c.b, c.a])),
+            Err(why) => Answer::turned_away(why),
+        }
+    }
+}
+
+impl From<Result<Bytes2, Refusal>> for Answer {
+    ghost from_gives = { λ bytes answer. answer ≡ answer_of two_bytes (encode_means bytes) };
+
+    fn from(bytes: Result<Bytes2, Refusal>) -> Answer {
+        match bytes {
+            Ok(bytes) => Answer::accepted(u16::from_le_bytes([bytes.0, bytes.1]) as u32),
+            Err(why) => Answer::turned_away(why),
+        }
     }
 }
 
 // ---- of the combiner
 
-pub fn strict(answer: Strict) -> StrictAnswer
-    ensures { result ≡ strict_answer (strict_means answer) }
-{
-    match answer {
-        Strict::Word(word) => StrictAnswer { some: true, word },
-        Strict::Nothing => StrictAnswer {
-            some: false,
-            word: 0,
-        },
+impl From<Option<u16>> for StrictAnswer {
+    ghost from_gives = { λ word answer. answer ≡ strict_answer (strict_means word) };
+
+    fn from(word: Option<u16>) -> StrictAnswer {
+        StrictAnswer {
+            some: word.is_some(),
+            word: word.unwrap_or(0),
+        }
     }
 }
 
@@ -150,27 +146,24 @@ pub fn no_color() -> Rgba
     }
 }
 
-pub fn colored(answer: Color) -> ColorAnswer
-    ensures { result ≡ color_answer (color_means answer) }
-{
-    match answer {
-        Color::Value(r, g, b, a) => ColorAnswer {
-            some: true,
-            rgba: Rgba { r, g, b, a },
-        },
-        Color::Refused => ColorAnswer {
-            some: false,
-            rgba: no_color(),
-        },
+impl From<Option<Rgba>> for ColorAnswer {
+    ghost from_gives = { λ color answer. answer ≡ color_answer (color_means color) };
+
+    fn from(color: Option<Rgba>) -> ColorAnswer {
+        ColorAnswer {
+            some: color.is_some(),
+            rgba: color.unwrap_or(no_color()),
+        }
     }
 }
 
+#[tactic(auto, unfolding(c_types::specs::Convert::parts_of, c_types::specs::Convert::numbers_of, combiner_inputs::specs::Inputs::color_number, combiner_inputs::specs::Inputs::alpha_number))]
 fn no_parts() -> Parts
     ensures { result ≡ parts_of no_combiner }
 {
     let zero = no_color();
     Parts {
-        selectors: [0, 0, 0, 0, 0, 0, 0, 0],
+        selectors: [0; 8],
         prim: zero,
         env: zero,
         blend: zero,
@@ -179,17 +172,13 @@ fn no_parts() -> Parts
     }
 }
 
-pub fn made(answer: Made) -> CombinerAnswer
-    ensures { result ≡ combiner_answer (made_means answer) }
-{
-    match answer {
-        Made::With(k) => CombinerAnswer {
-            some: true,
-            combiner: parts_of(k),
-        },
-        Made::Without => CombinerAnswer {
-            some: false,
-            combiner: no_parts(),
-        },
+impl From<Option<Combiner>> for CombinerAnswer {
+    ghost from_gives = { λ made answer. answer ≡ combiner_answer (made_means made) };
+
+    fn from(made: Option<Combiner>) -> CombinerAnswer {
+        CombinerAnswer {
+            some: made.is_some(),
+            combiner: made.map_or(no_parts(), Parts::from),
+        }
     }
 }

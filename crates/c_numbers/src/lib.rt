@@ -8,7 +8,7 @@ ghost use Rattle.combiner_inputs.specs.Inputs.{color_number, alpha_number};
 ghost use Rattle.words_pack.specs.Depth.{pack_depth_of};
 ghost use Rattle.c_types.specs.Convert.{selectors_of};
 
-use c_types::{Selectors, alpha_number, color_number, selectors_of};
+use c_types::{Selectors, alpha_number, color_number};
 use combiner_inputs::{AlphaIn, ColorIn};
 
 // ---- selectors: combiner.rs
@@ -52,7 +52,7 @@ pub fn alpha_c(index: u32) -> u32
 pub fn decode_combine(w0: u32, w1: u32) -> Selectors
     ensures { result ≡ selectors_of (combine_of w0 w1) }
 {
-    selectors_of(combiner_inputs::decode_combine(w0, w1))
+    combiner_inputs::decode_combine(w0, w1).into()
 }
 
 // ---- floats to whole numbers

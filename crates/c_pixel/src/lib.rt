@@ -6,20 +6,16 @@ ghost use Rattle.writeback_pixel.specs.Calls.{destination_call, color_known_call
 ghost use Rattle.c_types.specs.Convert.{mode_of, combiner_from, coverage_of, literal_of, encoding_of, writer_of, bytes_from};
 ghost use Rattle.c_answers.specs.Answers.{same, bit, four_bytes, two_bytes, answer_of};
 
-use c_answers::{Answer, blended, encoded, packed, stored, turned_away, yes_or_no};
-use c_types::{
-    Mode, Parts, byte_order, bytes_of_word, combiner_of, image_writer, literal_word,
-    memory_coverage, render_mode,
-};
+use c_answers::Answer;
+use c_types::{Mode, Parts, byte_order, bytes_of_word, image_writer};
 use state::Rgba;
-use writeback_pixel::PixelBytes;
 
 // ---- the blender: writeback.rs
 
 pub fn destination(mode: Mode, mask: u8, memory: u8) -> Answer
     ensures { result ≡ answer_of same (destination_call (mode_of mode) mask memory) }
 {
-    stored(writeback_pixel::destination(render_mode(mode), mask, memory))
+    writeback_pixel::destination(mode.into(), mask, memory).into()
 }
 
 pub fn color_known(
@@ -32,8 +28,8 @@ pub fn color_known(
 ) -> Answer
     ensures { result ≡ answer_of bit (color_known_call (mode_of mode) alpha mask (coverage_of known coverage) memory_rgb) }
 {
-    let under = memory_coverage(known, coverage);
-    yes_or_no(writeback_pixel::color_known(render_mode(mode), alpha, mask, under, memory_rgb))
+    let under = known.then_some(coverage);
+    writeback_pixel::color_known(mode.into(), alpha, mask, under, memory_rgb).into()
 }
 
 pub fn blend(
@@ -47,16 +43,16 @@ pub fn blend(
 ) -> Answer
     ensures { result ≡ answer_of four_bytes (blend_call (mode_of mode) (combiner_from combiner) rgba memory shade_alpha mask coverage) }
 {
-    let k = combiner_of(combiner);
-    blended(writeback_pixel::blend(
-        render_mode(mode),
-        k,
+    writeback_pixel::blend(
+        mode.into(),
+        combiner.into(),
         rgba,
         memory,
         shade_alpha,
         mask,
         coverage,
-    ))
+    )
+    .into()
 }
 
 // ---- packing: coherence.rs
@@ -64,25 +60,26 @@ pub fn blend(
 pub fn pack_color(rgba: u32, coverage: u8, dither: u8) -> Answer
     ensures { result ≡ answer_of same (pack_color_call (bytes_from rgba) coverage dither) }
 {
-    packed(writeback_pixel::pack_color(bytes_of_word(rgba), coverage, dither))
+    writeback_pixel::pack_color(bytes_of_word(rgba), coverage, dither).into()
 }
 
 pub fn supported(fmt: u8, siz: u8, width: u32, depth: bool) -> Answer
     ensures { result ≡ answer_of bit (supported_call (writer_of fmt siz width depth)) }
 {
-    yes_or_no(writeback_pixel::supported(image_writer(fmt, siz, width, depth)))
+    writeback_pixel::supported(image_writer(fmt, siz, width, depth)).into()
 }
 
+#[tactic(auto, using(crate::proofs::Sizes::size_small))]
 pub fn pixel_bytes(fmt: u8, siz: u8, width: u32, depth: bool) -> Answer
     ensures { result ≡ answer_of same (pixel_bytes_call (writer_of fmt siz width depth)) }
 {
     let size = writeback_pixel::pixel_bytes(image_writer(fmt, siz, width, depth));
     match size {
-        PixelBytes::Bytes(n) => Answer {
+        Ok(n) => Answer {
             number: 0,
             value: n as u32,
         },
-        PixelBytes::Refused => turned_away(),
+        Err(why) => Answer::turned_away(why),
     }
 }
 
@@ -103,8 +100,16 @@ pub fn encode(
 {
     let writer = image_writer(fmt, siz, width, depth);
     let bytes = bytes_of_word(rgba);
-    let place = pixel as usize;
-    let given = literal_word(literal, word);
+    let given = literal.then_some(word);
     let order = byte_order(big_endian);
-    encoded(writeback_pixel::encode(writer, bytes, coverage, place, given, rgb_dither, order))
+    writeback_pixel::encode(
+        writer,
+        bytes,
+        coverage,
+        pixel as usize,
+        given,
+        rgb_dither,
+        order,
+    )
+    .into()
 }

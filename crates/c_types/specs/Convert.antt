@@ -1,6 +1,6 @@
 -- To be believed. The C interface's plain values and the library's types: the case of an enum that a number stands for, in the order of the declarations of the Rust
 -- (hle/blender.rs, hle/combiner.rs), and structs field by field. Definitions only.
-use Rattle.std.specs.Prelude.{ℕ, ◌/◌, ◌%◌, Bool, true, false, List, [], ◌∷◌, get_or}
+use Rattle.std.specs.Prelude.{ℕ, ◌/◌, ◌%◌, Bool, true, false, List, [], ◌∷◌, get_or, Option, Some, None}
 use Rattle.state.specs.declared.AlphaCompare.{AlphaCompare}
 use Rattle.state.specs.declared.BlendClass.{BlendClass}
 use Rattle.state.specs.declared.ZMode.{ZMode}
@@ -10,9 +10,8 @@ use Rattle.combiner_inputs.specs.declared.AlphaIn.{AlphaIn}
 use Rattle.combiner_inputs.specs.declared.CycleSel.{CycleSel}
 use Rattle.combiner_inputs.specs.declared.CombinerSelectors.{CombinerSelectors}
 use Rattle.combiner.specs.declared.Combiner.{Combiner}
-use Rattle.blender.specs.declared.Coverage.{Coverage}
+use Rattle.blender.specs.Coverage.{Coverage}
 use Rattle.words_pack.specs.declared.FramebufferEncoding.{FramebufferEncoding}
-use Rattle.words_pack.specs.declared.Literal.{Literal}
 use Rattle.state.specs.declared.Rgba8.{Rgba8}
 use Rattle.words_pack.specs.declared.Writer.{Writer}
 use Rattle.combiner_inputs.specs.Inputs.{color_number, alpha_number}
@@ -24,9 +23,7 @@ use Rattle.state.specs.declared.BlendClass.TheVariants as class
 use Rattle.state.specs.declared.ZMode.TheVariants as depth
 use Rattle.combiner_inputs.specs.declared.ColorIn.TheVariants as cin
 use Rattle.combiner_inputs.specs.declared.AlphaIn.TheVariants as ain
-use Rattle.blender.specs.declared.Coverage.TheVariants as memory
 use Rattle.words_pack.specs.declared.FramebufferEncoding.TheVariants as order
-use Rattle.words_pack.specs.declared.Literal.TheVariants as literal
 
 -- ---- numbers for enums
 
@@ -140,12 +137,12 @@ selectors_of s = record { raw_l = s.raw_l; raw_h = s.raw_h; cyc0 = numbers_of s.
 -- ---- what may be absent, the writer and bytes
 
 abbrev pub coverage_of : Bool → ℕ → Coverage
-coverage_of true coverage = memory.Known coverage
-coverage_of false coverage = memory.Unknown
+coverage_of true coverage = Some coverage
+coverage_of false coverage = None
 
-abbrev pub literal_of : Bool → ℕ → Literal
-literal_of true word = literal.Word word
-literal_of false word = literal.Absent
+abbrev pub literal_of : Bool → ℕ → Option ℕ
+literal_of true word = Some word
+literal_of false word = None
 
 -- by whether it is big-endian
 abbrev pub encoding_of : Bool → FramebufferEncoding

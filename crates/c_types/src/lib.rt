@@ -3,13 +3,12 @@
 
 ghost use Rattle.std.specs.Prelude.{◌≡◌};
 ghost use Rattle.combiner_inputs.specs.Inputs.{color_number, alpha_number};
-ghost use Rattle.c_types.specs.Convert.{blend_class_of, z_mode_of, alpha_compare_of, color_in_of, alpha_in_of, mode_of, cycle_from, numbers_of, combiner_from, parts_of, selectors_of, coverage_of, literal_of, encoding_of, writer_of, bytes_from};
+ghost use Rattle.c_types.specs.Convert.{blend_class_of, z_mode_of, alpha_compare_of, color_in_of, alpha_in_of, mode_of, cycle_from, numbers_of, combiner_from, parts_of, selectors_of, encoding_of, writer_of, bytes_from};
 
-use blender::Coverage;
 use combiner::Combiner;
 use combiner_inputs::{AlphaIn, ColorIn, CombinerSelectors, CycleSel};
 use state::{AlphaCompare, BlendClass, RenderMode, Rgba, Rgba8, ZMode};
-use words_pack::{FramebufferEncoding, ImageLayout, Literal, Writer};
+use words_pack::{FramebufferEncoding, ImageLayout, Writer};
 
 // RenderMode, its enums by their numbers in the order of their declarations. A number that an enum lacks stands for its last case: a class above 3 is
 // DualSrc, a z mode above 3 Decal, an alpha_compare above 2 Dither.
@@ -61,8 +60,9 @@ pub struct Selectors {
     pub cyc1: [u8; 8],
 }
 
-// ---- enums by their numbers
+// ---- enums by their numbers. What a number stands for that an enum lacks is a rule of this interface alone, and no From of the enums' own crates.
 
+#[tactic(auto, unfolding(crate::specs::Convert::blend_class_of))]
 fn blend_class(number: u8) -> BlendClass
     ensures { result ≡ blend_class_of number }
 {
@@ -74,6 +74,7 @@ fn blend_class(number: u8) -> BlendClass
     }
 }
 
+#[tactic(auto, unfolding(crate::specs::Convert::z_mode_of))]
 fn z_mode(number: u8) -> ZMode
     ensures { result ≡ z_mode_of number }
 {
@@ -85,6 +86,7 @@ fn z_mode(number: u8) -> ZMode
     }
 }
 
+#[tactic(auto, unfolding(crate::specs::Convert::alpha_compare_of))]
 fn alpha_compare(number: u8) -> AlphaCompare
     ensures { result ≡ alpha_compare_of number }
 {
@@ -95,6 +97,7 @@ fn alpha_compare(number: u8) -> AlphaCompare
     }
 }
 
+#[tactic(auto, unfolding(crate::specs::Convert::color_in_of))]
 fn color_of_number(number: u8) -> ColorIn
     ensures { result ≡ color_in_of number }
 {
@@ -123,6 +126,7 @@ fn color_of_number(number: u8) -> ColorIn
     }
 }
 
+#[tactic(auto, unfolding(crate::specs::Convert::alpha_in_of))]
 fn alpha_of_number(number: u8) -> AlphaIn
     ensures { result ≡ alpha_in_of number }
 {
@@ -140,215 +144,141 @@ fn alpha_of_number(number: u8) -> AlphaIn
     }
 }
 
-pub fn color_number(input: ColorIn) -> u8
-    ensures { result ≡ color_number input }
+#[tactic(auto, unfolding(combiner_inputs::specs::Inputs::color_number))]
+pub fn color_number(color: ColorIn) -> u8
+    ensures { result ≡ color_number color }
 {
-    match input {
-        ColorIn::Combined => 0,
-        ColorIn::Texel0 => 1,
-        ColorIn::Primitive => 2,
-        ColorIn::Shade => 3,
-        ColorIn::Environment => 4,
-        ColorIn::Zero => 5,
-        ColorIn::One => 6,
-        ColorIn::Texel1 => 7,
-        ColorIn::KeyCenter => 8,
-        ColorIn::K4 => 9,
-        ColorIn::KeyScale => 10,
-        ColorIn::CombinedAlpha => 11,
-        ColorIn::Texel0Alpha => 12,
-        ColorIn::Texel1Alpha => 13,
-        ColorIn::PrimitiveAlpha => 14,
-        ColorIn::ShadeAlpha => 15,
-        ColorIn::EnvAlpha => 16,
-        ColorIn::LodFraction => 17,
-        ColorIn::PrimLodFrac => 18,
-        ColorIn::K5 => 19,
-        ColorIn::Noise => 20,
-    }
+    color as u8
 }
 
-pub fn alpha_number(input: AlphaIn) -> u8
-    ensures { result ≡ alpha_number input }
+#[tactic(auto, unfolding(combiner_inputs::specs::Inputs::alpha_number))]
+pub fn alpha_number(alpha: AlphaIn) -> u8
+    ensures { result ≡ alpha_number alpha }
 {
-    match input {
-        AlphaIn::Combined => 0,
-        AlphaIn::Texel0 => 1,
-        AlphaIn::Primitive => 2,
-        AlphaIn::Shade => 3,
-        AlphaIn::Environment => 4,
-        AlphaIn::Zero => 5,
-        AlphaIn::One => 6,
-        AlphaIn::Texel1 => 7,
-        AlphaIn::LodFraction => 8,
-        AlphaIn::PrimLodFrac => 9,
-    }
+    alpha as u8
 }
 
 // ---- structs
 
-pub fn render_mode(m: Mode) -> RenderMode
-    ensures { result ≡ mode_of m }
-{
-    let class = blend_class(m.blend_class);
-    let fallback = blend_class(m.fallback_class);
-    let z = z_mode(m.z_mode);
-    let compare = alpha_compare(m.alpha_compare);
-    RenderMode {
-        cycle_type: m.cycle_type,
-        rgb_dither: m.rgb_dither,
-        alpha_dither: m.alpha_dither,
-        key_enabled: m.key_enabled,
-        cvg_dst: m.cvg_dst,
-        image_read: m.image_read,
-        antialias: m.antialias,
-        alpha_cvg_select: m.alpha_cvg_select,
-        color_on_coverage: m.color_on_coverage,
-        blender_mux: m.blender_mux,
-        force_blend: m.force_blend,
-        blend_class: class,
-        fallback_class: fallback,
-        non_canonical_blend: m.non_canonical_blend,
-        z_source_prim: m.z_source_prim,
-        z_test: m.z_test,
-        z_write: m.z_write,
-        z_mode: z,
-        fog: m.fog,
-        alpha_compare: compare,
-        cvg_x_alpha: m.cvg_x_alpha,
+#[tactic(auto, unfolding(crate::specs::Convert::mode_of))]
+impl From<Mode> for RenderMode {
+    ghost from_gives = { λ m r. r ≡ mode_of m };
+
+    fn from(m: Mode) -> RenderMode {
+        RenderMode {
+            cycle_type: m.cycle_type,
+            rgb_dither: m.rgb_dither,
+            alpha_dither: m.alpha_dither,
+            key_enabled: m.key_enabled,
+            cvg_dst: m.cvg_dst,
+            image_read: m.image_read,
+            antialias: m.antialias,
+            alpha_cvg_select: m.alpha_cvg_select,
+            color_on_coverage: m.color_on_coverage,
+            blender_mux: m.blender_mux,
+            force_blend: m.force_blend,
+            blend_class: blend_class(m.blend_class),
+            fallback_class: blend_class(m.fallback_class),
+            non_canonical_blend: m.non_canonical_blend,
+            z_source_prim: m.z_source_prim,
+            z_test: m.z_test,
+            z_write: m.z_write,
+            z_mode: z_mode(m.z_mode),
+            fog: m.fog,
+            alpha_compare: alpha_compare(m.alpha_compare),
+            cvg_x_alpha: m.cvg_x_alpha,
+        }
     }
 }
 
+#[tactic(auto, unfolding(crate::specs::Convert::cycle_from))]
 fn cycle(numbers: [u8; 8]) -> CycleSel
     ensures { result ≡ cycle_from numbers }
 {
-    let ca = color_of_number(numbers[0]);
-    let cb = color_of_number(numbers[1]);
-    let cc = color_of_number(numbers[2]);
-    let cd = color_of_number(numbers[3]);
-    let aa = alpha_of_number(numbers[4]);
-    let ab = alpha_of_number(numbers[5]);
-    let ac = alpha_of_number(numbers[6]);
-    let ad = alpha_of_number(numbers[7]);
     CycleSel {
-        ca,
-        cb,
-        cc,
-        cd,
-        aa,
-        ab,
-        ac,
-        ad,
+        ca: color_of_number(numbers[0]),
+        cb: color_of_number(numbers[1]),
+        cc: color_of_number(numbers[2]),
+        cd: color_of_number(numbers[3]),
+        aa: alpha_of_number(numbers[4]),
+        ab: alpha_of_number(numbers[5]),
+        ac: alpha_of_number(numbers[6]),
+        ad: alpha_of_number(numbers[7]),
     }
 }
 
+#[tactic(auto, unfolding(crate::specs::Convert::numbers_of))]
 fn numbers(s: CycleSel) -> [u8; 8]
     ensures { result ≡ numbers_of s }
 {
-    let ca = s.ca;
-    let cb = s.cb;
-    let cc = s.cc;
-    let cd = s.cd;
-    let aa = s.aa;
-    let ab = s.ab;
-    let ac = s.ac;
-    let ad = s.ad;
     [
-        color_number(ca),
-        color_number(cb),
-        color_number(cc),
-        color_number(cd),
-        alpha_number(aa),
-        alpha_number(ab),
-        alpha_number(ac),
-        alpha_number(ad),
+        color_number(s.ca),
+        color_number(s.cb),
+        color_number(s.cc),
+        color_number(s.cd),
+        alpha_number(s.aa),
+        alpha_number(s.ab),
+        alpha_number(s.ac),
+        alpha_number(s.ad),
     ]
 }
 
-pub fn combiner_of(p: Parts) -> Combiner
-    ensures { result ≡ combiner_from p }
-{
-    let listed = p.selectors;
-    let selectors = cycle(listed);
-    let prim = p.prim;
-    let env = p.env;
-    let blend = p.blend;
-    let fog = p.fog;
-    let lod = p.lod;
-    Combiner {
-        selectors,
-        prim,
-        env,
-        blend,
-        fog,
-        lod,
+#[tactic(auto, unfolding(crate::specs::Convert::combiner_from))]
+impl From<Parts> for Combiner {
+    ghost from_gives = { λ p k. k ≡ combiner_from p };
+
+    fn from(p: Parts) -> Combiner {
+        Combiner {
+            selectors: cycle(p.selectors),
+            prim: p.prim,
+            env: p.env,
+            blend: p.blend,
+            fog: p.fog,
+            lod: p.lod,
+        }
     }
 }
 
-pub fn parts_of(k: Combiner) -> Parts
-    ensures { result ≡ parts_of k }
-{
-    let named = k.selectors;
-    let selectors = numbers(named);
-    let prim = k.prim;
-    let env = k.env;
-    let blend = k.blend;
-    let fog = k.fog;
-    let lod = k.lod;
-    Parts {
-        selectors,
-        prim,
-        env,
-        blend,
-        fog,
-        lod,
+#[tactic(auto, unfolding(crate::specs::Convert::parts_of))]
+impl From<Combiner> for Parts {
+    ghost from_gives = { λ k p. p ≡ parts_of k };
+
+    fn from(k: Combiner) -> Parts {
+        Parts {
+            selectors: numbers(k.selectors),
+            prim: k.prim,
+            env: k.env,
+            blend: k.blend,
+            fog: k.fog,
+            lod: k.lod,
+        }
     }
 }
 
-pub fn selectors_of(s: CombinerSelectors) -> Selectors
-    ensures { result ≡ selectors_of s }
-{
-    let raw_l = s.raw_l;
-    let raw_h = s.raw_h;
-    let first = s.cyc0;
-    let cyc0 = numbers(first);
-    let second = s.cyc1;
-    let cyc1 = numbers(second);
-    Selectors {
-        raw_l,
-        raw_h,
-        cyc0,
-        cyc1,
+#[tactic(auto, unfolding(crate::specs::Convert::selectors_of))]
+impl From<CombinerSelectors> for Selectors {
+    ghost from_gives = { λ s n. n ≡ selectors_of s };
+
+    fn from(s: CombinerSelectors) -> Selectors {
+        Selectors {
+            raw_l: s.raw_l,
+            raw_h: s.raw_h,
+            cyc0: numbers(s.cyc0),
+            cyc1: numbers(s.cyc1),
+        }
     }
 }
 
-// ---- what may be absent, the writer and bytes
-
-pub fn memory_coverage(known: bool, coverage: u8) -> Coverage
-    ensures { result ≡ coverage_of known coverage }
-{
-    if known {
-        return Coverage::Known(coverage);
-    }
-    Coverage::Unknown
-}
-
-pub fn literal_word(literal: bool, word: u32) -> Literal
-    ensures { result ≡ literal_of literal word }
-{
-    if literal {
-        return Literal::Word(word);
-    }
-    Literal::Absent
-}
+// ---- the writer and bytes: both types are other crates', so these are functions and no From
 
 pub fn byte_order(big_endian: bool) -> FramebufferEncoding
     ensures { result ≡ encoding_of big_endian }
 {
     if big_endian {
-        return FramebufferEncoding::BigEndian;
+        FramebufferEncoding::BigEndian
+    } else {
+        FramebufferEncoding::Native
     }
-    FramebufferEncoding::Native
 }
 
 pub fn image_writer(fmt: u8, siz: u8, width: u32, depth: bool) -> Writer
@@ -362,9 +292,6 @@ pub fn image_writer(fmt: u8, siz: u8, width: u32, depth: bool) -> Writer
 pub fn bytes_of_word(word: u32) -> Rgba8
     ensures { result ≡ bytes_from word }
 {
-    let r = (word % 0x100) as u8;
-    let g = (word / 0x100 % 0x100) as u8;
-    let b = (word / 0x10000 % 0x100) as u8;
-    let a = (word / 0x1000000 % 0x100) as u8;
+    let [r, g, b, a] = word.to_le_bytes();
     Rgba8 { r, g, b, a }
 }
