@@ -1,16 +1,15 @@
 -- The first quarter that does not lie before a side: the nearest one is no further off than half a quarter, so that it is this one or the next, and one comparison says which.
 -- Assumes nothing.
-use mathlib.Core.Path.{◌≡◌, refl, sym, ap, ◌∙◌, subst⁻¹}
+use mathlib.Core.Path.{◌≡◌, refl, sym, ap, ◌∙◌}
 use Prim.Native.Nat.{ℕ, zero, suc, ◌+◌, ◌*◌, ◌≤◌, ◌<◌, min}
 use native.Mathlib.Nat.{mul-one, mul_assoc, add-mul, le-div_iff_mul-le, div-lt_iff_lt-mul, mul-le-mul_right}
 use native.Mathlib.Omega.{arith}
-use mathlib.Core.Bool.{Bool, true, false, not, cond, ◌&&◌, ◌||◌}
+use mathlib.Core.Bool.{Bool, true, false, not, cond, ◌&&◌, ◌||◌, false≢true}
 use borrow.Author.Tests.{lt-ltb, le-ltb, lt-leb, le-leb, ltb-true, ltb-false, eq-eqb, ne_eqb}
-use lib.Dec.{T, ltb, leb, eqb}
+use lib.Dec.{ltb, leb, eqb}
 use lib.IntN.{pos, neg_ℤ}
-use lib.Ieee.{Float, nan, inf, fin, up, down, lt, le, ne}
+use lib.Ieee.{Float, nan, inf, fin, up, down, lt, le, is_nan}
 use lib.Ieee.Fits.{down_pos}
-use lib.Ieee.Compare.{differs_from_itself}
 use Rattle.num_float.specs.Whole.{near, quarter_of}
 use Rattle.raster_edge.specs.Bound.{clamp_of}
 use Rattle.raster_edge.proofs.Clamped.{clamp_in}
@@ -104,8 +103,8 @@ not_less a b true p =
     λ i. le-ltb a b (omega arith) i || (ne_eqb a b (λ x. omega arith) i && true)
 not_less a b false p = of_le a b (ltb a b) refl (ltb-false b a p)
 
-after_side : (side : Float) (q : ℕ) → ne side side ≡ false → le side (quarters q) ≡ not (lt (quarters q) side)
-unfolding lt le ne
+after_side : (side : Float) (q : ℕ) → is_nan side ≡ false → le side (quarters q) ≡ not (lt (quarters q) side)
+unfolding lt le is_nan
 after_side nan q e = sym e
 after_side (inf true) q e = refl
 after_side (inf false) q e = refl
@@ -119,16 +118,12 @@ not_ltb q n = by (ltb q n) refl
     by true p = sym (lt-leb n q (ltb-true q n p))
     by false p = sym (le-leb n q (ltb-false q n p))
 
-pub from_is : (side : Float) (n : ℕ) → ne side side ≡ false → Before side n → From side n
+pub from_is : (side : Float) (n : ℕ) → is_nan side ≡ false → Before side n → From side n
 from_is side n e w = record { most = w.most; is = λ q h. after_side side q e ∙ ap not (w.is q h) ∙ not_ltb q n }
 
 -- none are at a NaN or after it
-pub from_nan : (side : Float) → ne side side ≡ true → From side 4096
-unfolding le
-from_nan side e = record { most = omega arith; is = λ q h. ap (λ (z : Float). le z (quarters q)) (differs_from_itself side (truth e)) ∙ none q ∙ sym (lt-leb 4096 q h) }
-  where
-    truth : {b : Bool} → b ≡ true → T b
-    truth e = subst⁻¹ T e tt
-
-    none : (q : ℕ) → le nan (quarters q) ≡ false
-    none q = refl
+pub from_nan : (side : Float) → is_nan side ≡ true → From side 4096
+unfolding le is_nan
+from_nan nan e = record { most = omega arith; is = λ q h. sym (lt-leb 4096 q h) }
+from_nan (inf s) e = absurd (false≢true e)
+from_nan (fin s m d) e = absurd (false≢true e)

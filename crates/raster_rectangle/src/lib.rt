@@ -21,10 +21,7 @@ pub struct Sides {
 fn within(low: f32, high: f32, p: f32) -> bool
     ensures { result ≡ within_of low high p }
 {
-    if p >= low {
-        return p < high;
-    }
-    false
+    p >= low && p < high
 }
 
 // Whether quarter q of pixel n of an axis lies in low..high. The sum is exact, so that p is where the quarter lies.
@@ -32,8 +29,7 @@ pub fn quarter_within(low: f32, high: f32, n: u32, q: u32) -> bool
     requires { (n < 1024) × (q < 4) }
     ensures { result ≡ within_of low high (quarters (n * 4 + q)) }
 {
-    let p = n as f32 + q as f32 * 0.25;
-    within(low, high, p)
+    within(low, high, n as f32 + q as f32 * 0.25)
 }
 
 // How many of an axis's quarters, 0 to 4095, lie before the side: none, if it is a NaN. The nearest one is no further off than half a quarter, so that it is
@@ -49,10 +45,11 @@ fn quarters_before(side: f32) -> u32
 fn first_quarter(side: f32) -> u32
     ensures { From side result }
 {
-    if side != side {
-        return 4096;
+    if side.is_nan() {
+        4096
+    } else {
+        quarters_before(side)
     }
-    quarters_before(side)
 }
 
 // An upright edge at quarter q.
