@@ -11,21 +11,18 @@ use lib.ListN.{length}
 use Rattle.state.specs.declared.RenderMode.{RenderMode}
 use Rattle.state.specs.declared.Rgba.{Rgba}
 use Rattle.combiner.specs.declared.Combiner.{Combiner}
-use Rattle.combiner.specs.declared.Color.TheVariants.{Value}
+use Rattle.std.specs.Prelude.{Option, Some, None}
 use Rattle.combiner.specs.Combine.{color_of, full_shade}
 use Rattle.raster_vertex.specs.Sorted.{sorted}
 use Rattle.raster_vertex.specs.Shade.{culled_of, shade_of}
 use Rattle.raster_edges.specs.Edge.{area_of}
 use Rattle.raster_edges.specs.Sample.{mask_of}
 use Rattle.raster_edges.specs.Span.{tri_of, edges_of}
-use Rattle.raster_rectangle.specs.declared.Sides.{Sides}
 use Rattle.raster_rectangle.specs.Rectangle.{rect_mask}
-use Rattle.raster_pixel.specs.declared.Fragment.TheVariants.{Empty}
 use Rattle.raster_pixel.specs.declared.Geometry.{Geometry}
 use Rattle.raster_pixel.specs.declared.Geometry.TheVariants.{Nothing, Triangles, Rectangle}
 use Rattle.raster_pixel.specs.declared.Scissor.{Scissor}
-use Rattle.raster_pixel.specs.declared.Three.{Three}
-use Rattle.raster_pixel.specs.declared.Three.TheVariants.{Vertices, Absent}
+use Rattle.raster_vertex.specs.declared.Triangle.{Triangle}
 use Rattle.raster_pixel.specs.Admitted.{triangle_at}
 use Rattle.raster_pixel.specs.Emitted.{Emit, shown, covered, emits, inside, corner_of, triangle_fragment, triangle_emits, three_emits, rectangle_fragment, rectangle_emits, geometry_emits}
 use Rattle.raster_pixel.specs.Parts.{parts, from}
@@ -48,29 +45,29 @@ map_inside f s w h c d e =
     map_from f _ _ (λ y. map_from f (c y) (d y) (e y) s.left (min w (s.left + s.width))) s.top (min h (s.top + s.height))
 
 -- ---- a combiner that has a colour for every shade
-module _ (k : Combiner) (value : Rgba → Rgba) (has : (s : Rgba) → color_of k s ≡ Value (value s).r (value s).g (value s).b (value s).a) where
+module _ (k : Combiner) (value : Rgba → Rgba) (has : (s : Rgba) → color_of k s ≡ Some (value s)) where
   pixel_mask :
       (antialias : Bool) (mask p : ℕ) (s : Rgba) (shade : Float)
-      → map masked_of (emits (cond (shown antialias mask) (covered mask (color_of k s) shade) Empty) p) ≡ pixel_masks antialias mask p
+      → map masked_of (emits (cond (shown antialias mask) (covered mask (color_of k s) shade) None) p) ≡ pixel_masks antialias mask p
   unfolding pixel_masks
   pixel_mask antialias mask p s shade =
-      (λ i. map masked_of (emits (cond (shown antialias mask) (covered mask (has s i) shade) Empty) p)) ∙ go (shown antialias mask)
+      (λ i. map masked_of (emits (cond (shown antialias mask) (covered mask (has s i) shade) None) p)) ∙ go (shown antialias mask)
     where
       go :
           (b : Bool)
-          → map masked_of (emits (cond b (covered mask (Value (value s).r (value s).g (value s).b (value s).a) shade) Empty) p)
+          → map masked_of (emits (cond b (covered mask (Some (value s)) shade) None) p)
           ≡ cond b (record { pixel = p; mask = mask } ∷ []) []
       go true = refl
       go false = refl
 
   module _ (m : RenderMode) (cull : Bool) (s : Scissor) (w h : ℕ) where
-    three-masks : (t : Three) → map masked_of (three_emits m k cull s w h t) ≡ three_masks m.antialias cull s w h t
+    three-masks : (t : Option Triangle) → map masked_of (three_emits m k cull s w h t) ≡ three_masks m.antialias cull s w h t
     unfolding triangle_emits triangle_masks triangle_fragment
-    three-masks Absent = refl
-    three-masks (Vertices a b c) =
-        let o = sorted (a ∷ b ∷ c ∷ []) in
+    three-masks None = refl
+    three-masks (Some t) =
+        let o = sorted (t.a ∷ t.b ∷ t.c ∷ []) in
         let corners = map corner_of o in
-        go (culled_of cull a b c || eqb (nat_abs (area_of corners)) 0) _ _
+        go (culled_of cull t.a t.b t.c || eqb (nat_abs (area_of corners)) 0) _ _
         (map_inside masked_of s w h _ _ (λ y x.
         pixel_mask m.antialias (mask_of (edges_of (tri_of corners) y) x) (y * w + x) (shade_of o x y) (shade_of o x y).a))
       where
@@ -84,7 +81,6 @@ module _ (k : Combiner) (value : Rgba → Rgba) (has : (s : Rgba) → color_of k
         → map masked_of (geometry_emits m k cull s w h vs ps is g) ≡ geometry_masks m.antialias cull s w h vs ps is g
     unfolding rectangle_emits rectangle_masks rectangle_fragment
     geometry-masks vs ps is Nothing = refl
-    geometry-masks vs ps is (Rectangle l t r b) =
-        let sides : Sides = record { left = l; top = t; right = r; bottom = b } in
+    geometry-masks vs ps is (Rectangle sides) =
         map_inside masked_of s w h _ _ (λ y x. pixel_mask m.antialias (rect_mask sides x y) (y * w + x) full_shade full_shade.a)
     geometry-masks vs ps is Triangles = map_from masked_of _ _ (λ i. three-masks (triangle_at vs ps is i)) 0 (length is / 3)

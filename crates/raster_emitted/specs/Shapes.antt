@@ -1,7 +1,8 @@
 -- Inner vocabulary. The pixels that a shape emits without their colours, parts of a draw as raster_pixel/specs/Emitted has them. Definitions only; that they are those of the
 -- emitted list is proofs/Colorless.
-use Rattle.std.specs.Prelude.{ℕ, ◌+◌, ◌*◌, ◌/◌, Bool, cond, ◌||◌, List, [], ◌∷◌, map, eqb, nat_abs, Float, length}
+use Rattle.std.specs.Prelude.{ℕ, ◌+◌, ◌*◌, ◌/◌, Bool, cond, ◌||◌, List, [], ◌∷◌, map, eqb, nat_abs, Float, length, Option, Some, None}
 use Rattle.raster_vertex.specs.declared.Vertex.{Vertex}
+use Rattle.raster_vertex.specs.declared.Triangle.{Triangle}
 use Rattle.raster_vertex.specs.Sorted.{sorted}
 use Rattle.raster_vertex.specs.Shade.{culled_of}
 use Rattle.raster_edges.specs.declared.Edges.{Edges}
@@ -14,8 +15,6 @@ use Rattle.raster_rectangle.specs.Rectangle.{rect_mask}
 use Rattle.raster_pixel.specs.declared.Scissor.{Scissor}
 use Rattle.raster_pixel.specs.declared.Geometry.{Geometry}
 use Rattle.raster_pixel.specs.declared.Geometry.TheVariants.{Nothing, Triangles, Rectangle}
-use Rattle.raster_pixel.specs.declared.Three.{Three}
-use Rattle.raster_pixel.specs.declared.Three.TheVariants.{Vertices, Absent}
 use Rattle.raster_pixel.specs.Admitted.{triangle_at}
 use Rattle.raster_pixel.specs.Emitted.{shown, inside, corner_of}
 use Rattle.raster_pixel.specs.Parts.{from}
@@ -45,9 +44,9 @@ triangle_masks antialias cull s w h a b c =
     let corners = map corner_of (sorted (a ∷ b ∷ c ∷ [])) in
     cond (culled_of cull a b c || eqb (nat_abs (area_of corners)) 0) [] (shape_masks antialias (tri_of corners) s w h)
 
-abbrev pub three_masks : Bool → Bool → Scissor → ℕ → ℕ → Three → List Masked
-three_masks antialias cull s w h Absent = []
-three_masks antialias cull s w h (Vertices a b c) = triangle_masks antialias cull s w h a b c
+abbrev pub three_masks : Bool → Bool → Scissor → ℕ → ℕ → Option Triangle → List Masked
+three_masks antialias cull s w h None = []
+three_masks antialias cull s w h (Some t) = triangle_masks antialias cull s w h t.a t.b t.c
 
 unfoldable pub rectangle_masks : Bool → Scissor → ℕ → ℕ → Sides → List Masked
 rectangle_masks antialias s w h sides = inside s w h (λ (y x : ℕ). pixel_masks antialias (rect_mask sides x y) (y * w + x))
@@ -57,5 +56,5 @@ triangles_masks antialias cull s w h vs ps is = from (λ (i : ℕ). three_masks 
 
 abbrev pub geometry_masks : Bool → Bool → Scissor → ℕ → ℕ → List Float → List ℕ → List ℕ → Geometry → List Masked
 geometry_masks antialias cull s w h vs ps is Nothing = []
-geometry_masks antialias cull s w h vs ps is (Rectangle l t r b) = rectangle_masks antialias s w h (record { left = l; top = t; right = r; bottom = b })
+geometry_masks antialias cull s w h vs ps is (Rectangle sides) = rectangle_masks antialias s w h sides
 geometry_masks antialias cull s w h vs ps is Triangles = triangles_masks antialias cull s w h vs ps is

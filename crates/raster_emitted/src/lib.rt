@@ -14,9 +14,9 @@ ghost use Rattle.raster_emitted.specs.Listed.{ReadyIn, ListedIn};
 use crate::rows::list_rows;
 use crate::slots::Window;
 use raster_edges::Tri;
-use raster_pixel::{Geometry, Scissor, Three};
+use raster_pixel::{Geometry, Scissor};
 use raster_rectangle::Sides;
-use raster_vertex::Vertex;
+use raster_vertex::Triangle;
 
 pub mod rows; // the rows of a shape
 pub mod slots; // the lent slices
@@ -55,18 +55,16 @@ fn list_triangle(
     scissor: Scissor,
     width: u32,
     height: u32,
-    a: Vertex,
-    b: Vertex,
-    c: Vertex,
+    triangle: Triangle,
 ) -> u64
     requires ready { ReadyIn window n pixels masks }
-    requires shape { CornersNear a b c × Sized scissor width height }
-    ensures { ListedIn window (triangle_masks antialias cull scissor width height a b c) n result pixels masks }
+    requires shape { CornersNear triangle.a triangle.b triangle.c × Sized scissor width height }
+    ensures { ListedIn window (triangle_masks antialias cull scissor width height triangle.a triangle.b triangle.c) n result pixels masks }
 {
-    if raster_vertex::culled(cull, a, b, c) {
+    if triangle.culled(cull) {
         return n;
     }
-    let v = raster_vertex::sort([a, b, c]);
+    let v = raster_vertex::sort([triangle.a, triangle.b, triangle.c]);
     let corners = raster_pixel::corners(v);
     if raster_edges::quarter_area(corners) == 0 {
         return n;
@@ -98,11 +96,11 @@ fn list_indexed(
     requires near { TrianglesNear vertices.now present.now indices.now }
     ensures { ListedIn window (three_masks antialias cull scissor width height (triangle_at vertices.now present.now indices.now i)) n result pixels masks }
 {
-    let Three::Vertices(a, b, c) = raster_pixel::triangle_at(vertices, present, indices, i) else {
+    let Some(triangle) = raster_pixel::triangle_at(vertices, present, indices, i) else {
         return n;
     };
     list_triangle(
-        pixels, masks, window, n, antialias, cull, scissor, width, height, a, b, c,
+        pixels, masks, window, n, antialias, cull, scissor, width, height, triangle,
     )
 }
 
@@ -124,9 +122,8 @@ fn list_triangles(
     requires near { TrianglesNear vertices.now present.now indices.now }
     ensures { ListedIn window (triangles_masks antialias cull scissor width height vertices.now present.now indices.now) 0 result pixels masks }
 {
-    let count = indices.len() / 3;
-    let mut m: u64 = 0;
-    for i in 0..count {
+    let mut m = 0;
+    for i in 0..indices.len() / 3 {
         if m == window.limit {
             return m;
         }
@@ -153,9 +150,16 @@ fn list_rectangle(
     requires sized { Sized scissor width height }
     ensures { ListedIn window (rectangle_masks antialias scissor width height sides) 0 result pixels masks }
 {
-    let t = sides.outline();
     list_shape(
-        pixels, masks, window, 0, antialias, t, scissor, width, height,
+        pixels,
+        masks,
+        window,
+        0,
+        antialias,
+        sides.outline(),
+        scissor,
+        width,
+        height,
     )
 }
 
@@ -181,17 +185,9 @@ pub fn list_pixels(
 {
     match geometry {
         Geometry::Nothing => 0,
-        Geometry::Rectangle(left, top, right, bottom) => {
-            let sides = Sides {
-                left,
-                top,
-                right,
-                bottom,
-            };
-            list_rectangle(
-                pixels, masks, window, antialias, scissor, width, height, sides,
-            )
-        }
+        Geometry::Rectangle(sides) => list_rectangle(
+            pixels, masks, window, antialias, scissor, width, height, sides,
+        ),
         Geometry::Triangles => list_triangles(
             pixels, masks, window, antialias, cull, scissor, width, height, vertices, present,
             indices,

@@ -15,24 +15,15 @@ fn counted(limit: u64, n: u64, more: u32) -> u64
     requires { n ≤ limit }
     ensures { result ≡ min limit (n + more) }
 {
-    if limit - n < more as u64 {
-        return limit;
-    }
-    n + more as u64
+    // n + more may not fit
+    n + (limit - n).min(more as u64)
 }
 
 // How many slots lie before the draw's n-th pixel, of those that there are.
 pub fn slots_before(first: u64, n: u64, slots: usize) -> usize
     ensures { result ≡ min slots (n - first) }
 {
-    if n <= first {
-        return 0;
-    }
-    let before = n - first;
-    if before < slots as u64 {
-        return before as usize;
-    }
-    slots
+    n.saturating_sub(first).min(slots as u64) as usize
 }
 
 // Pixels `pixel` up to `pixel + count`, of which the first is the draw's n-th, each with these samples.
