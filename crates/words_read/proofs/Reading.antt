@@ -46,6 +46,10 @@ supported_le : (w fmt siz : ℕ) → supported_of (writer_by w fmt siz) ≡ true
 unfolding supported_of color_supported
 supported_le w fmt siz h = siz_le siz (eqb fmt 0) (leb 2 fmt && leb fmt 4) h
 
+-- what `supported` answered, of the writer that was made
+pub written : {w fmt siz : ℕ} {x : Writer} {b : Bool} → x ≡ writer_by w fmt siz → b ≡ supported_of x → supported_of (writer_by w fmt siz) ≡ b
+written e h = ap supported_of (sym e) ∙ sym h
+
 -- ---- the answers
 pub numbered : (e : Refusal) → 1 ≤ number_of e
 numbered refusal.Size = lit≤ tt

@@ -1,13 +1,9 @@
 -- Laws of a list of answers: its count, in parts and from what is left of it, and that entries which hold the answers are the list's numbers and bytes.
 -- Assumes nothing.
-use Prim.Native.Nat.{ℕ, zero, suc, ◌+◌, ◌-◌, ◌*◌, ◌/◌, ◌%◌, ◌≤◌, ◌<◌}
-use mathlib.Core.Path.{◌≡◌, refl, sym, ap, ap₂, ◌∙◌}
-use mathlib.Core.Bool.{false}
+use Prim.Native.Nat.{ℕ, zero, suc, ◌+◌, ◌-◌, ◌*◌, ◌≤◌, ◌<◌}
+use mathlib.Core.Path.{◌≡◌, refl, ap, ap₂, ◌∙◌}
 use mathlib.Core.List.{List, [], ◌∷◌}
 use native.Mathlib.Omega.{arith}
-use borrow.Author.Tests.{eq-eqb, ne_eqb}
-use native.Mathlib.Decide.{ℕ_discrete}
-use lib.Dec.{eqb}
 use lib.ListN.{length, get_or}
 use Rattle.words_read.specs.Read.{WordAnswer}
 use Rattle.words_run.specs.Run.{answers_from, numbers_of, words_of, one_if, count_of, RunAnswer, run_by}
@@ -102,14 +98,3 @@ module _ (answer : ℕ → WordAnswer) where
           words_are ws 0 n w.matched.words
           (λ j q k a b c. ap (λ (p : ℕ). get_or ws p 0) a ∙ ap (λ (x : WordAnswer). x.word.0) (at j k b c))
           (λ j q k a b c. ap (λ (p : ℕ). get_or ws p 0) {x = suc q} {y = 2 * j + 1} (omega arith) ∙ ap (λ (x : WordAnswer). x.word.1) (at j k b c))
-
--- ---- two bytes for each number
-pub odd : (w n : ℕ) → (w % 2 ≡ 0 → ⊥) → false ≡ eqb w (2 * n)
-odd w n h = sym (ne_eqb w (2 * n) (λ e. h (omega arith)))
-
-pub halves : (w n : ℕ) → w % 2 ≡ 0 → eqb (w / 2) n ≡ eqb w (2 * n)
-halves w n h = go (ℕ_discrete (w / 2) n)
-  where
-    go : Dec (w / 2 ≡ n) → eqb (w / 2) n ≡ eqb w (2 * n)
-    go (yes e) = eq-eqb (w / 2) n e ∙ sym (eq-eqb w (2 * n) (omega arith))
-    go (no e) = ne_eqb (w / 2) n e ∙ sym (ne_eqb w (2 * n) (λ q. e (omega arith)))

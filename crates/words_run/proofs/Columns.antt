@@ -13,7 +13,7 @@ use Rattle.frame_pixel.specs.Marks.{color_marked, coverage_marked, coverage_of}
 use Rattle.blender.specs.Blend.{or_zero}
 use Rattle.num_float.proofs.Tests.{never, both_right}
 use Rattle.words_pack.specs.declared.FramebufferEncoding.{FramebufferEncoding}
-use Rattle.words_pack.specs.declared.Literal.TheVariants.{Absent}
+use Rattle.std.specs.Prelude.{None}
 use Rattle.state.specs.declared.Rgba8.{Rgba8}
 use Rattle.words_pack.specs.declared.Bytes2.{Bytes2}
 use Rattle.words_pack.specs.Writer.{color_supported, supported_of, pixel_bytes_of, color_of, encode_of}
@@ -87,12 +87,12 @@ module _ (w fmt p dither : ℕ) (e : FramebufferEncoding) (c : Pixel) where
   -- a supported colour writer, with its size in numbers
   writes :
       (siz : ℕ) → supported_of (writer_by w fmt siz) ≡ true
-      → encode_of (writer_by w fmt siz) (bytes_of c) (or_zero (coverage_of c.mark c.coverage)) p Absent dither e
+      → encode_of (writer_by w fmt siz) (bytes_of c) (or_zero (coverage_of c.mark c.coverage)) p None dither e
       ≡ color_of (record { fmt = fmt; siz = siz; width = w }) (bytes_of c) (or_zero (coverage_of c.mark c.coverage)) p dither e
   writes siz s =
       let x = writer_by w fmt siz in
       let n = or_zero (coverage_of c.mark c.coverage) in
-      encode_by x (bytes_of c) n p dither e Absent true s ∙ absent_by x (bytes_of c) n p dither e false refl
+      encode_by x (bytes_of c) n p dither e None true s ∙ absent_by x (bytes_of c) n p dither e false refl
 
   two :
       supported_of (writer_by w fmt 2) ≡ true → readable c.mark 2 ≡ true
@@ -142,5 +142,5 @@ module _ (a : ReadArgs) (w h : ℕ) (f : Frame) (z : frame_refusal f w h ≡ 0) 
           (b : Bool) → readable (get_or f.marks a.pixel 0) a.siz ≡ b
           → ◌≡◌ {A = WordAnswer} (cond b (record { number = 0; word = x }) (record { number = 10; word = (0, 0) })) (read_answer a w h f)
       go true r =
-          read a w h f refl z p s r refl (word_is w a.fmt a.pixel a.dither a.encoding (pixel_at f a.pixel) a.siz s r)
-      go false r = tenth a w h f refl z p s r
+          read a w h f z p s r refl (word_is w a.fmt a.pixel a.dither a.encoding (pixel_at f a.pixel) a.siz s r)
+      go false r = tenth a w h f z p s r

@@ -4,15 +4,15 @@ use mathlib.Core.Path.{◌≡◌, refl, sym, ap, subst, ◌∙◌}
 use mathlib.Core.Bool.{true, false, cond}
 use mathlib.Core.List.{List}
 use native.Mathlib.Omega.{arith}
-use borrow.Author.Tests.{eqb-true}
-use lib.Dec.{eqb}
+use borrow.Author.Tests.{eq-eqb, ne_eqb}
 use lib.ListN.{length}
 use Rattle.words_pack.specs.Writer.{supported_of}
 use Rattle.frame.specs.Frame.{Frame}
 use Rattle.frame.specs.Fits.{Fit}
 use Rattle.frame.specs.Checks.{frame_refusal}
 use Rattle.frame.proofs.Fits.{accepted}
-use Rattle.words_run.specs.declared.Run.TheVariants.{Read, Refused}
+use Rattle.std.specs.Prelude.{Ok, Err}
+use Rattle.refused.specs.declared.Refusal.TheVariants as refusal
 use Rattle.words_read.specs.Read.{ReadArgs, WordAnswer, writer_of, read_answer}
 use Rattle.words_run.specs.Run.{read_at, answers_from, one_if, count_of, run_means, run_by, run_answer}
 use Rattle.words_run.specs.Entries.{Entries, entries_of, Matched, Wrote, refused_by, answer_in}
@@ -21,8 +21,8 @@ use Rattle.words_run.proofs.Entries.{wrote_as, wrote_both}
 use Rattle.words_run.proofs.Answers.{count_none, count_both, answers_same, run_is}
 use Rattle.words_run.proofs.Columns.{answer_is}
 
-pub matched_by : (ws ns : List ℕ) → eqb (length ws) (2 * length ns) ≡ true → Matched (length ns) (entries_of ws ns)
-matched_by ws ns h = record { words = eqb-true (length ws) (2 * length ns) h; numbers = refl }
+pub matched_by : (ws ns : List ℕ) → length ws ≡ 2 * length ns → Matched (length ns) (entries_of ws ns)
+matched_by ws ns h = record { words = h; numbers = refl }
 
 module _ (a : ReadArgs) (w h : ℕ) (f : Frame) where
   -- entries that are all turned away with one number are no words
@@ -37,8 +37,8 @@ module _ (a : ReadArgs) (w h : ℕ) (f : Frame) where
         (λ j u v. ap (λ (x : WordAnswer). one_if x.number) (sym (e j u (omega arith))) ∙ z),
   )
 
-  one_none : (k : ℕ) → (k ≡ 0 → ⊥) → one_if k ≡ 0
-  one_none zero n = absurd (n refl)
+  one_none : (k : ℕ) → 1 ≤ k → one_if k ≡ 0
+  one_none zero n = absurd (omega arith)
   one_none (suc k) n = refl
 
   -- from 0
@@ -52,7 +52,7 @@ module _ (a : ReadArgs) (w h : ℕ) (f : Frame) where
         → Wrote (λ (i : ℕ). read_answer (read_at a i) w h f) 0 count n s t
         × (0 ≡ count_of (answers_from (λ (i : ℕ). read_answer (read_at a i) w h f) 0 count))
     there_ninth q p =
-        let r = part_refused refl (λ i u v. ninth (read_at a i) w h f refl z (omega (arith, there (omega arith))) q) p in
+        let r = part_refused refl (λ i u v. ninth (read_at a i) w h f z (omega (arith, there (omega arith))) q) p in
         (r.0, none_at_zero count (λ (i : ℕ). read_answer (read_at a i) w h f) r.1)
 
     pub there_read :
@@ -79,26 +79,26 @@ module _ (a : ReadArgs) (w h : ℕ) (f : Frame) where
 
   -- ---- the whole run
   module _ {ws₀ ns₀ : List ℕ} where
-    pub run_unmatched : eqb (length ws₀) (2 * length ns₀) ≡ false → run_means (Refused 19) ws₀ ns₀ ≡ run_answer a w h f ws₀ ns₀
+    pub run_unmatched : (length ws₀ ≡ 2 * length ns₀ → ⊥) → run_means (Err refusal.Words) ws₀ ns₀ ≡ run_answer a w h f ws₀ ns₀
     unfolding run_answer
     run_unmatched e =
-        λ i. cond (sym e i) (run_by (answers_from (λ (j : ℕ). read_answer (read_at a j) w h f) 0 (length ns₀))) (run_means (Refused 19) ws₀ ns₀)
+        λ i. cond (sym (ne_eqb (length ws₀) (2 * length ns₀) e) i) (run_by (answers_from (λ (j : ℕ). read_answer (read_at a j) w h f) 0 (length ns₀))) (run_means (Err refusal.Words) ws₀ ns₀)
 
-    module _ (m : eqb (length ws₀) (2 * length ns₀) ≡ true) where
+    module _ (m : length ws₀ ≡ 2 * length ns₀) where
       run_matched :
           {c : ℕ} {ws ns : List ℕ}
           → Wrote (λ (i : ℕ). read_answer (read_at a i) w h f) 0 (length ns₀) (length ns₀) (entries_of ws₀ ns₀) (entries_of ws ns)
           → c ≡ count_of (answers_from (λ (i : ℕ). read_answer (read_at a i) w h f) 0 (length ns₀))
-          → run_means (Read c) ws ns ≡ run_answer a w h f ws₀ ns₀
+          → run_means (Ok c) ws ns ≡ run_answer a w h f ws₀ ns₀
       unfolding run_answer
       run_matched p e =
           run_is (λ (i : ℕ). read_answer (read_at a i) w h f) p e
-          ∙ (λ i. cond (sym m i) (run_by (answers_from (λ (j : ℕ). read_answer (read_at a j) w h f) 0 (length ns₀))) (run_means (Refused 19) ws₀ ns₀))
+          ∙ (λ i. cond (sym (eq-eqb (length ws₀) (2 * length ns₀) m) i) (run_by (answers_from (λ (j : ℕ). read_answer (read_at a j) w h f) 0 (length ns₀))) (run_means (Err refusal.Words) ws₀ ns₀))
 
       pub run_refused :
-          {k : ℕ} {ws ns : List ℕ} → k ≡ frame_refusal f w h → (k ≡ 0 → ⊥)
+          {k : ℕ} {ws ns : List ℕ} → k ≡ frame_refusal f w h → 1 ≤ k
           → Wrote (λ (i : ℕ). refused_by k) 0 (length ns₀) (length ns₀) (entries_of ws₀ ns₀) (entries_of ws ns)
-          → run_means (Read 0) ws ns ≡ run_answer a w h f ws₀ ns₀
+          → run_means (Ok 0) ws ns ≡ run_answer a w h f ws₀ ns₀
       run_refused {k} e n p =
           let r = part_refused (one_none k n) (λ i u v. read_refused (read_at a i) w h f e n) p in
           run_matched r.0 (none_at_zero (length ns₀) (λ (i : ℕ). read_answer (read_at a i) w h f) r.1)
@@ -108,9 +108,9 @@ module _ (a : ReadArgs) (w h : ℕ) (f : Frame) where
           → Wrote (λ (i : ℕ). read_answer (read_at a i) w h f) 0 there (length ns₀) (entries_of ws₀ ns₀) t
           × (c ≡ count_of (answers_from (λ (i : ℕ). read_answer (read_at a i) w h f) 0 there))
           → Wrote (λ (i : ℕ). refused_by 8) there (length ns₀) (length t.numbers) t (entries_of ws ns)
-          → run_means (Read c) ws ns ≡ run_answer a w h f ws₀ ns₀
+          → run_means (Ok c) ws ns ≡ run_answer a w h f ws₀ ns₀
       run_read {there} {c} {t} {ws} {ns} z e (p, d) q =
-          let r = part_refused {k = 8} refl (λ i u v. eighth (read_at a i) w h f refl z (omega arith)) q in
+          let r = part_refused {k = 8} refl (λ i u v. eighth (read_at a i) w h f z (omega arith)) q in
           run_matched
           (subst (λ (k : ℕ). Wrote (λ (i : ℕ). read_answer (read_at a i) w h f) 0 (length ns₀) k (entries_of ws₀ ns₀) (entries_of ws ns))
           p.matched.numbers

@@ -1,9 +1,9 @@
 -- To be believed. A run of words: the single word reads of the pixels first, first + 1, .. on one frame, one after the other, into lent slices for their bytes and numbers.
 -- Definitions only.
-use Rattle.std.specs.Prelude.{ℕ, zero, suc, ◌+◌, ◌*◌, ◌≤◌, cond, List, [], ◌∷◌, eqb, length, get_or}
+use Rattle.std.specs.Prelude.{ℕ, zero, suc, ◌+◌, ◌*◌, ◌≤◌, cond, List, [], ◌∷◌, eqb, length, get_or, Result, Ok, Err}
 use Rattle.frame.specs.Frame.{Frame}
-use Rattle.words_run.specs.declared.Run.{Run}
-use Rattle.words_run.specs.declared.Run.TheVariants.{Read, Refused}
+use Rattle.refused.specs.declared.Refusal.{Refusal}
+use Rattle.refused.specs.Numbers.{number_of}
 use Rattle.words_read.specs.Read.{ReadArgs, WordAnswer, read_answer}
 
 -- the same read, i pixels further on
@@ -48,14 +48,14 @@ pub record RunAnswer : Type 0 where
   pub words : List ℕ
   pub numbers : List ℕ
 
-abbrev pub run_means : Run → List ℕ → List ℕ → RunAnswer
-run_means (Read n) ws ns = record { number = 0; count = n; words = ws; numbers = ns }
-run_means (Refused k) ws ns = record { number = k; count = 0; words = ws; numbers = ns }
+abbrev pub run_means : Result ℕ Refusal → List ℕ → List ℕ → RunAnswer
+run_means (Ok n) ws ns = record { number = 0; count = n; words = ws; numbers = ns }
+run_means (Err e) ws ns = record { number = number_of e; count = 0; words = ws; numbers = ns }
 
 -- a run that is turned away has a number
-abbrev pub NumberedRun : Run → Type 0
-NumberedRun (Read n) = Unit
-NumberedRun (Refused k) = 1 ≤ k
+abbrev pub NumberedRun : Result ℕ Refusal → Type 0
+NumberedRun (Ok n) = Unit
+NumberedRun (Err e) = 1 ≤ number_of e
 
 abbrev pub run_by : List WordAnswer → RunAnswer
 run_by answers = record { number = 0; count = count_of answers; words = words_of answers; numbers = numbers_of answers }

@@ -4,11 +4,21 @@ ghost use Rattle.std.specs.Prelude.{◌≡◌, ℕ, ◌+◌, ◌*◌, ◌<◌, �
 ghost use Rattle.frame.specs.Frame.{pixel_at, frame_of};
 ghost use Rattle.frame.specs.Fits.{Fit};
 ghost use Rattle.frame.specs.Loads.{ColorKnown, CoverageKnown, ColorThere, Loadable};
+ghost use Rattle.refused.specs.Numbers.{number_of};
 ghost use Rattle.words_run.specs.Run.{one_if, count_of, answers_from};
 ghost use Rattle.words_run.specs.Entries.{entries_of, Matched, PutIn, WroteIn, answer_of, refused_by, color_at, halfword, byte_of, word_at, answer_at, answer_in, At};
 
+use refused::Refusal;
 use state::Rgba8;
 use words_pack::{Bytes2, FramebufferEncoding};
+
+// How the words of a run are written.
+#[derive(Clone, Copy)]
+pub struct Format {
+    pub siz: u8,
+    pub rgb_dither: u8,
+    pub encoding: FramebufferEncoding,
+}
 
 // The column and row of a pixel.
 #[derive(Clone, Copy)]
@@ -22,19 +32,18 @@ fn put_entry(words: &mut [u8], numbers: &mut [u8], i: usize, number: u8, word: B
     requires matched { Matched (length numbers.old) (entries_of words.old numbers.old) }
     ensures { PutIn i (answer_of number word) words numbers }
 {
-    let at = 2 * i;
-    let next = at + 1;
-    words[at] = word.0;
-    words[next] = word.1;
+    words[2 * i] = word.0;
+    words[2 * i + 1] = word.1;
     numbers[i] = number;
 }
 
 // The entries from `start` up to `end`, turned away with one number.
-pub fn fill(words: &mut [u8], numbers: &mut [u8], start: usize, end: usize, number: u8)
+pub fn fill(words: &mut [u8], numbers: &mut [u8], start: usize, end: usize, refusal: Refusal)
     requires within { end ≤ length numbers.old }
     requires matched { Matched (length numbers.old) (entries_of words.old numbers.old) }
-    ensures { WroteIn (λ (i : ℕ). refused_by number) start end words numbers }
+    ensures { WroteIn (λ (i : ℕ). refused_by (number_of refusal)) start end words numbers }
 {
+    let number = refusal.number();
     let none = Bytes2(0, 0);
     for i in start..end {
         put_entry(words, numbers, i, number, none);
@@ -48,12 +57,11 @@ fn read_halfword(
     marks: &[u8],
     pixel: usize,
     place: Place,
-    rgb_dither: u8,
-    encoding: FramebufferEncoding,
+    format: Format,
 ) -> Bytes2
     requires known { ColorKnown marks.now pixel × CoverageKnown marks.now pixel }
     requires there { Loadable (frame_of colors.now coverages.now marks.now) pixel }
-    ensures { result ≡ halfword place.x place.y rgb_dither encoding (color_at colors.now pixel) (get_or coverages.now pixel 0) }
+    ensures { result ≡ halfword place.x place.y format.rgb_dither format.encoding (color_at colors.now pixel) (get_or coverages.now pixel 0) }
 {
     let color = frame::load::color(colors, marks, pixel);
     let coverage = frame::load::coverage(coverages, marks, pixel);
@@ -63,9 +71,9 @@ fn read_halfword(
         b: color.blue,
         a: 0,
     };
-    let threshold = words_pack::word_threshold(rgb_dither, place.x, place.y);
+    let threshold = words_pack::word_threshold(format.rgb_dither, place.x, place.y);
     let word = words_pack::pack_color(rgba, coverage, threshold);
-    words_pack::encode_u16(encoding, word)
+    words_pack::encode_u16(format.encoding, word)
 }
 
 // A pixel of 8 bits: red in even columns, green in odd ones.
@@ -75,30 +83,26 @@ fn read_byte(colors: &[u8], marks: &[u8], pixel: usize, x: usize) -> Bytes2
     ensures { result ≡ byte_of x (color_at colors.now pixel) }
 {
     let color = frame::load::color(colors, marks, pixel);
-    if x % 2 == 0 {
-        return Bytes2(color.red, 0);
-    }
-    Bytes2(color.green, 0)
+    Bytes2(if x % 2 == 0 { color.red } else { color.green }, 0)
 }
 
 fn read_at(
     colors: &[u8],
     coverages: &[u8],
     marks: &[u8],
-    siz: u8,
     pixel: usize,
     place: Place,
-    rgb_dither: u8,
-    encoding: FramebufferEncoding,
+    format: Format,
 ) -> Bytes2
-    requires known { ColorKnown marks.now pixel × (siz ≡ 2 → CoverageKnown marks.now pixel) }
+    requires known { ColorKnown marks.now pixel × (format.siz ≡ 2 → CoverageKnown marks.now pixel) }
     requires there { Loadable (frame_of colors.now coverages.now marks.now) pixel }
-    ensures { result ≡ word_at siz place.x place.y rgb_dither encoding (color_at colors.now pixel) (get_or coverages.now pixel 0) }
+    ensures { result ≡ word_at format.siz place.x place.y format.rgb_dither format.encoding (color_at colors.now pixel) (get_or coverages.now pixel 0) }
 {
-    if siz == 2 {
-        return read_halfword(colors, coverages, marks, pixel, place, rgb_dither, encoding);
+    if format.siz == 2 {
+        read_halfword(colors, coverages, marks, pixel, place, format)
+    } else {
+        read_byte(colors, marks, pixel, place.x)
     }
-    read_byte(colors, marks, pixel, place.x)
 }
 
 // Entry i, of a pixel that numbers 1 to 9 let through: 1 for a word, 0 for number 10.
@@ -106,11 +110,9 @@ fn read_entry(
     colors: &[u8],
     coverages: &[u8],
     marks: &[u8],
-    siz: u8,
     pixel: usize,
     place: Place,
-    rgb_dither: u8,
-    encoding: FramebufferEncoding,
+    format: Format,
     words: &mut [u8],
     numbers: &mut [u8],
     i: usize,
@@ -118,18 +120,14 @@ fn read_entry(
     requires there { Loadable (frame_of colors.now coverages.now marks.now) pixel }
     requires below { i < length numbers.old }
     requires matched { Matched (length numbers.old) (entries_of words.old numbers.old) }
-    ensures entry { PutIn i (answer_at siz place.x place.y rgb_dither encoding (pixel_at (frame_of colors.now coverages.now marks.now) pixel)) words numbers }
-    ensures count { result ≡ one_if (answer_at siz place.x place.y rgb_dither encoding (pixel_at (frame_of colors.now coverages.now marks.now) pixel)).number }
+    ensures entry { PutIn i (answer_at format.siz place.x place.y format.rgb_dither format.encoding (pixel_at (frame_of colors.now coverages.now marks.now) pixel)) words numbers }
+    ensures count { result ≡ one_if (answer_at format.siz place.x place.y format.rgb_dither format.encoding (pixel_at (frame_of colors.now coverages.now marks.now) pixel)).number }
 {
-    let mark = marks[pixel];
-    if !words_read::is_readable(mark, siz) {
-        let none = Bytes2(0, 0);
-        put_entry(words, numbers, i, 10, none);
+    if !words_read::is_readable(marks[pixel], format.siz) {
+        put_entry(words, numbers, i, Refusal::Unknown.number(), Bytes2(0, 0));
         return 0;
     }
-    let word = read_at(
-        colors, coverages, marks, siz, pixel, place, rgb_dither, encoding,
-    );
+    let word = read_at(colors, coverages, marks, pixel, place, format);
     put_entry(words, numbers, i, 0, word);
     1
 }
@@ -141,11 +139,14 @@ fn next_place(place: Place, width: usize) -> Place
     ensures { At width (place.y * width + place.x + 1) result }
 {
     let x = place.x + 1;
-    let y = place.y;
     if x < width {
-        return Place { x, y };
+        Place { x, y: place.y }
+    } else {
+        Place {
+            x: 0,
+            y: place.y + 1,
+        }
     }
-    Place { x: 0, y: y + 1 }
 }
 
 // The first `count` entries, whose pixels are there.
@@ -155,9 +156,7 @@ pub fn read_entries(
     coverages: &[u8],
     marks: &[u8],
     first: usize,
-    siz: u8,
-    rgb_dither: u8,
-    encoding: FramebufferEncoding,
+    format: Format,
     words: &mut [u8],
     numbers: &mut [u8],
     count: usize,
@@ -165,8 +164,8 @@ pub fn read_entries(
     requires there { (0 < width) × (0 < count → first + count ≤ length marks.now) × (length marks.now ≤ 1048576) × (count ≤ length numbers.old) }
     requires fit { Fit (length marks.now) (frame_of colors.now coverages.now marks.now) }
     requires matched { Matched (length numbers.old) (entries_of words.old numbers.old) }
-    ensures entries { WroteIn (λ (i : ℕ). answer_in width siz rgb_dither encoding (frame_of colors.now coverages.now marks.now) (first + i)) 0 count words numbers }
-    ensures count { result ≡ count_of (answers_from (λ (i : ℕ). answer_in width siz rgb_dither encoding (frame_of colors.now coverages.now marks.now) (first + i)) 0 count) }
+    ensures entries { WroteIn (λ (i : ℕ). answer_in width format.siz format.rgb_dither format.encoding (frame_of colors.now coverages.now marks.now) (first + i)) 0 count words numbers }
+    ensures count { result ≡ count_of (answers_from (λ (i : ℕ). answer_in width format.siz format.rgb_dither format.encoding (frame_of colors.now coverages.now marks.now) (first + i)) 0 count) }
 {
     let mut n: u64 = 0;
     let mut place = Place {
@@ -176,7 +175,7 @@ pub fn read_entries(
     for i in 0..count {
         let pixel = first + i;
         let read = read_entry(
-            colors, coverages, marks, siz, pixel, place, rgb_dither, encoding, words, numbers, i,
+            colors, coverages, marks, pixel, place, format, words, numbers, i,
         );
         n += read;
         place = next_place(place, width);

@@ -1,21 +1,13 @@
 -- The first number that holds is answered, or the word.
-use Prim.Native.Nat.{ℕ}
-use mathlib.Core.Bool.{Bool}
 use mathlib.Core.Path.{◌≡◌, ap, sym, ◌∙◌}
 use Rattle.std.specs.Prelude.{Result, Ok, Err}
 use Rattle.std.specs.Result.{IsErrAnd}
 use Rattle.refused.specs.declared.Refusal.{Refusal}
 use Rattle.refused.specs.Numbers.{number_of}
 use Rattle.words_pack.specs.declared.Bytes2.{Bytes2}
-use Rattle.words_pack.specs.declared.Writer.{Writer}
-use Rattle.words_pack.specs.Writer.{supported_of}
-use Rattle.words_read.specs.Read.{read_args, writer_by, word_means}
-use Rattle.words_read.proofs.Reading.{refused, read_refused, numbered, eighth, ninth, tenth, read, encodable}
+use Rattle.words_read.specs.Read.{read_args, word_means}
+use Rattle.words_read.proofs.Reading.{written, refused, read_refused, numbered, eighth, ninth, tenth, read, encodable}
 use Rattle.words_read.proofs.read_word.Goals as goal
-
--- what the call's answer says of the writer
-written : {w fmt siz : ℕ} {x : Writer} {b : Bool} → x ≡ writer_by w fmt siz → b ≡ supported_of x → supported_of (writer_by w fmt siz) ≡ b
-written e h = ap supported_of (sym e) ∙ sym h
 
 -- what an `Err` that is handed on means
 handed_on : (e : Refusal) (r : Result Bytes2 Refusal) → IsErrAnd r (λ (f : Refusal). f ≡ e) → word_means r ≡ refused (number_of e)
