@@ -50,10 +50,6 @@ module _ (number : ℕ → ℕ) (mask : ℕ) {before : Slots} where
             ((λ j. record { pixel = get_or-set_same ps hi p 0 hp j; mask = get_or-set_same ms hi mask 0 hm j }) ∙ ap (spot mask) e)
         go i a b (no n) = other i n ∙ d.written i a (omega arith)
 
--- the same slots, said otherwise
-pub filled_all : {number : ℕ → ℕ} {mask lo hi end : ℕ} {before after : Slots} → hi ≡ end → Filled number mask lo hi before after → Filled number mask lo end before after
-filled_all {number} {mask} {lo} {before = before} {after} e d = subst (λ (k : ℕ). Filled number mask lo k before after) e d
-
 -- the slots of a run
 module _ (v : Window) (p count : ℕ) {n mask : ℕ} {before after : Slots} where
   pub run_listed :

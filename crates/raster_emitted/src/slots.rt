@@ -45,6 +45,7 @@ pub fn list_run(
     let slots = masks.len();
     let start = slots_before(first, n, slots);
     let stop = slots_before(first, end, slots);
+    // by index: after a zip or an enumerate of iter_mut a proof knows nothing of what was written
     for i in start..stop {
         let past = first + i as u64 - n;
         pixels[i] = pixel + past as u32;
@@ -58,9 +59,6 @@ pub fn clear(pixels: &mut [u32], masks: &mut [u8], start: usize)
     requires { (start ≤ length masks.old) × (length pixels.old ≡ length masks.old) }
     ensures { FilledIn (λ (i : ℕ). 0) 0 start (length masks.old) pixels masks }
 {
-    let end = masks.len();
-    for i in start..end {
-        pixels[i] = 0;
-        masks[i] = 0;
-    }
+    pixels[start..].fill(0);
+    masks[start..].fill(0);
 }
