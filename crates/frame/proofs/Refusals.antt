@@ -60,7 +60,7 @@ marks_nil [] = refl
 marks_nil (c ∷ cs) = refl
 
 -- two adjoining parts decide
-pub marks_parts : (cs ms ds ns : List ℕ) → length cs ≡ length ms → marks_ok (cs ++ ds) (ms ++ ns) ≡ (marks_ok cs ms && marks_ok ds ns)
+marks_parts : (cs ms ds ns : List ℕ) → length cs ≡ length ms → marks_ok (cs ++ ds) (ms ++ ns) ≡ (marks_ok cs ms && marks_ok ds ns)
 unfolding marks_ok
 marks_parts [] [] ds ns e = refl
 marks_parts [] (m ∷ ms) ds ns e = absurd (omega arith)

@@ -13,7 +13,7 @@ use Rattle.raster_pixel.specs.Parts.{from}
 use Rattle.raster_pixel.specs.Emitted.{Emit}
 use Rattle.raster_pixel.proofs.Loops.{Going, going_start, going_fits, going_more, going_by_fits, going_by, going_done}
 use Rattle.frame.specs.Frame.{Frame}
-use Rattle.frame.specs.Fits.{Long, Fit}
+use Rattle.frame.specs.Fits.{Fit}
 use Rattle.frame_paint.specs.Steps.{step_frame}
 use Rattle.frame_paint.specs.Pixel.{Drew, Room}
 
@@ -51,10 +51,6 @@ module _ {n : ℕ} {f g : Frame} (a : Fit n f) (b : Fit n g) where
 
   pub same_marks : length g.marks ≡ length f.marks
   same_marks = b.marks ∙ sym a.marks
-
--- a frame that fits is long
-pub long_now : {n : ℕ} {f : Frame} → Fit n f → Long f
-long_now h = record { colors = rw h.marks h.colors; coverages = h.coverages ∙ sym h.marks }
 
 -- ---- a loop over the parts from a up to b, with i the next: from f₀ to f, with n pixels counted
 pub record Drawing (mode : RenderMode) (k : Combiner) (c : ℕ → List Emit) (a b : ℕ) (f₀ : Frame) (i : ℕ) (f : Frame) (n : ℕ) : Type 0 where

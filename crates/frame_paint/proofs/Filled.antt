@@ -11,17 +11,18 @@ use Rattle.num_float.specs.Color.{f1}
 use Rattle.state.specs.declared.RenderMode.{RenderMode}
 use Rattle.state.specs.declared.Rgba.{Rgba}
 use Rattle.combiner.specs.declared.Combiner.{Combiner}
-use Rattle.std.specs.Prelude.{None, Some}
+use Rattle.std.specs.Prelude.{Option, None, Some, is_some}
+use Rattle.std.specs.Bool.{then_some}
 use Rattle.frame_pixel.specs.declared.Colors.{Colors}
 use Rattle.frame_pixel.specs.declared.full.Full.{Full}
 use Rattle.frame_pixel.specs.Marks.{color_marked, coverage_marked, unknown, mark_of}
 use Rattle.frame_pixel.specs.Rules.{coverage_byte, coverage_at, assembled}
 use Rattle.frame_pixel.specs.Coloring.{over_colors}
-use Rattle.frame_pixel.specs.Full.{FullOf, Enough, full_coverage, full_with, full_step}
+use Rattle.frame_pixel.specs.Full.{FullOf, Enough, full_known, full_coverage, full_with, full_step}
 use Rattle.frame_pixel.proofs.Fulls.{full-step}
 use Rattle.raster_pixel.specs.Parts.{parts, from}
 use Rattle.frame.specs.Frame.{Frame, frame_of, pixel_at, put_pixel}
-use Rattle.frame.specs.Fits.{Long, Fit, put_if, colors_at, colors_if, stored_at}
+use Rattle.frame.specs.Fits.{Long, Fit, with_colors, with_coverage, colors_at, stored_at}
 use Rattle.frame_paint.specs.Steps.{source_of, step_frame}
 use Rattle.frame_paint.specs.Pixel.{Drew, emit_of}
 use Rattle.frame_paint.specs.Row as row
@@ -31,17 +32,25 @@ use Rattle.frame_paint.proofs.Steps.{set_back, three_back}
 -- ---- what is stored
 full-coverage :
     (fills m : Bool) (cs : List ℕ) (p : ℕ) → p < length cs
-    → put_if fills cs p 7 ≡ set cs p (coverage_byte (full_coverage fills (cond m (Some (get_or cs p 0)) None)) (get_or cs p 0))
+    → with_coverage cs p (then_some fills 7) ≡ set cs p (coverage_byte (full_coverage fills (cond m (Some (get_or cs p 0)) None)) (get_or cs p 0))
 full-coverage true m cs p h = refl
 full-coverage false true cs p h = sym (set_back cs p h)
 full-coverage false false cs p h = sym (set_back cs p h)
 
 full-colors :
-    (known : Bool) (l : List ℕ) (p : ℕ) (new : Colors) → 3 * p + 2 < length l
-    → put_if known (put_if known (put_if known l (3 * p) new.red) (3 * p + 1) new.green) (3 * p + 2) new.blue
-    ≡ (let c = cond known new (colors_at l p) in set (set (set l (3 * p) c.red) (3 * p + 1) c.green) (3 * p + 2) c.blue)
-full-colors true l p new h = refl
-full-colors false l p new h = sym (three_back l (3 * p) h)
+    (l marked o : Bool) (cs : List ℕ) (p : ℕ) (over : Colors → Colors) (own : Colors) → 3 * p + 2 < length cs
+    → with_colors cs p (cond l (cond marked (Some (over (colors_at cs p))) None) (then_some o own))
+    ≡ (let c = cond (cond l marked o) (cond l (over (colors_at cs p)) own) (colors_at cs p) in set (set (set cs (3 * p) c.red) (3 * p + 1) c.green) (3 * p + 2) c.blue)
+full-colors true true o cs p over own h = refl
+full-colors true false o cs p over own h = sym (three_back cs (3 * p) h)
+full-colors false marked true cs p over own h = refl
+full-colors false marked false cs p over own h = sym (three_back cs (3 * p) h)
+
+full-known : (l marked o : Bool) (over own : Colors) → is_some (cond l (cond marked (Some over) None) (then_some o own)) ≡ cond l marked o
+full-known true true o over own = refl
+full-known true false o over own = refl
+full-known false marked true over own = refl
+full-known false marked false over own = refl
 
 -- the marks that it sets, joined with those of its colour and of the coverage that stood there
 full_mark : (known m fills : Bool) (c : ℕ) → bit_or (mark_of known m) (mark_of false fills) ≡ mark_of known (not (unknown (full_coverage fills (cond m (Some c) None))))
@@ -55,38 +64,27 @@ full_mark false true false c = refl
 full_mark false false true c = refl
 full_mark false false false c = refl
 
--- the memory's bytes are looked at where they are known
-looked : (l marked o : Bool) (over : Colors → Colors) (own memory : Colors)
-    → cond (cond l marked o) (cond l (over (colors_if marked memory)) own) memory ≡ cond (cond l marked o) (cond l (over memory) own) memory
-looked true true o over own memory = refl
-looked true false o over own memory = refl
-looked false marked o over own memory = refl
-
 module _ (full : Full) (f : Frame) (p : ℕ) (place : p < length f.marks) (long : Long f) where
   pub filled :
-      {m known : Bool} {new : Colors} {a : ℕ} {g : Frame} → m ≡ coverage_marked (get_or f.marks p 0)
-      → known ≡ cond full.layered (color_marked (get_or f.marks p 0)) (full.sure || m)
-      → new ≡ cond full.layered (over_colors full.layer (colors_if (color_marked (get_or f.marks p 0)) (colors_at f.colors p))) full.own
-      → full.sets ≡ mark_of false full.fills → a ≡ mark_of known m → g ≡ stored_at f p known new full.fills 7 (bit_or a full.sets)
+      {m : Bool} {color : Option Colors} {coverage : Option ℕ} {a : ℕ} {g : Frame} → m ≡ coverage_marked (get_or f.marks p 0)
+      → color ≡ row.full_color full (color_marked (get_or f.marks p 0)) m (colors_at f.colors p) → coverage ≡ then_some full.fills 7
+      → full.sets ≡ mark_of false full.fills → a ≡ mark_of (is_some color) m → g ≡ stored_at f p color coverage (bit_or a full.sets)
       → g ≡ row.filled_at full f p
   unfolding full_step full_with assembled
-  filled em ek en es ea eg =
+  filled em ec eg es ea e =
       let x = pixel_at f p in
       let marked = color_marked x.mark in
       let m = coverage_marked x.mark in
-      let known = cond full.layered marked (full.sure || m) in
-      let new = cond full.layered (over_colors full.layer (colors_if marked (colors_at f.colors p))) full.own in
-      let ek' = ek ∙ (λ i. cond full.layered marked (full.sure || em i)) in
-      let ea' = (λ i. bit_or ((ea ∙ (λ j. mark_of (ek' j) (em j))) i) (es i)) ∙ full_mark known m full.fills x.coverage in
-      let colors =
-      full-colors known f.colors p new (omega (arith, place, long.colors))
-      ∙ (λ i.
-      let c = looked full.layered marked (full.sure || m) (over_colors full.layer) full.own (colors_at f.colors p) i in
-      set (set (set f.colors (3 * p) c.red) (3 * p + 1) c.green) (3 * p + 2) c.blue) in
+      let over = over_colors full.layer in
+      let memory = colors_at f.colors p in
+      let ec' = ec ∙ (λ i. row.full_color full marked (em i) memory) in
+      let known = ap is_some ec' ∙ full-known full.layered marked (full.sure || m) (over memory) full.own in
+      let mark = (λ i. bit_or ((ea ∙ (λ j. mark_of (known j) (em j))) i) (es i)) ∙ full_mark (full_known full x) m full.fills x.coverage in
+      let colors = full-colors full.layered marked (full.sure || m) f.colors p over full.own (omega (arith, place, long.colors)) in
       let coverages = full-coverage full.fills m f.coverages p (omega (arith, place, long.coverages)) in
-      eg
-      ∙ (λ i. stored_at f p (ek' i) (en i) full.fills 7 (ea' i))
-      ∙ (λ i. frame_of (colors i) (coverages i) (set f.marks p (mark_of known (not (unknown (full_coverage full.fills (coverage_at x)))))))
+      e
+      ∙ (λ i. stored_at f p (ec' i) (eg i) (mark i))
+      ∙ (λ i. frame_of (colors i) (coverages i) (set f.marks p (mark_of (full_known full x) (not (unknown (full_coverage full.fills (coverage_at x)))))))
 
 -- ---- that is a step
 module _ {mode : RenderMode} {k : Combiner} {color : Rgba} {full : Full} (o : FullOf mode k color full) (e : Enough mode full) where

@@ -5,6 +5,8 @@ use mathlib.Core.List.{List}
 use Prim.Native.Nat.{ℕ}
 use lib.Dec.{eqb}
 use lib.Ieee.{Float}
+use Rattle.std.specs.Prelude.{Option, Some, None, unwrap_or}
+use Rattle.std.specs.Bool.{then_some}
 use Rattle.state.specs.declared.RenderMode.{RenderMode}
 use Rattle.state.specs.declared.Rgba.{Rgba}
 use Rattle.combiner.specs.declared.Combiner.{Combiner}
@@ -20,6 +22,7 @@ use Rattle.blender.specs.Layer.{own_of, steady_of}
 use Rattle.blender.proofs.Solid.{opaque}
 use Rattle.blender.proofs.Layers.{layered, steady}
 use Rattle.frame_pixel.specs.declared.Pixel.{Pixel}
+use Rattle.frame_pixel.specs.declared.Colors.{Colors}
 use Rattle.frame_pixel.specs.declared.full.Full.{Full}
 use Rattle.frame_pixel.specs.Rules.{pixel_step}
 use Rattle.frame_pixel.specs.Coloring.{colors_of, own_colors}
@@ -38,27 +41,29 @@ off : (a : Bool) → not a ≡ true → a ≡ false
 off true h = sym h
 off false h = refl
 
-module _ (mode : RenderMode) (k : Combiner) {x : Resolved} {c : Rgba} {full : Full} (steady shaded : Bool) {mux : Mux} where
+there : (b : Bool) (own : Colors) → then_some (not b) own ≡ cond b None (Some own)
+there true own = refl
+there false own = refl
+
+module _ (mode : RenderMode) (k : Combiner) {x : Resolved} {c : Rgba} {full : Full} (steady shaded : Bool) {mux : Mux} {own : Option Colors} where
   pub prepared :
-      x ≡ resolved_of k → color_of k full_shade ≡ color_value c → FullOf mode k c full → steady ≡ steady_of mode → shaded ≡ shade_used k → mux ≡ mux_of mode.blender_mux
+      x ≡ resolved_of k → color_of k full_shade ≡ color_value c → FullOf mode k c full → steady ≡ steady_of mode → shaded ≡ shade_used k → mux ≡ mux_of mode.blender_mux → own ≡ then_some (not (eqb mux.p 0)) full.own
       → Prepared
       (record {
         mode = mode;
         combiner = k;
         resolved = x;
         color = c;
-        own = full.own;
-        plain = eqb mux.p 0;
+        own = own;
         full = full;
         even = full.layered || (steady || full.sure);
         flat = (full.layered || (steady || full.sure)) && not shaded;
       })
-  prepared ex ec ef et eh em =
+  prepared ex ec ef et eh em eo =
       record {
         resolved = ex;
         color = ec;
-        own = ef.own;
-        plain = λ i. eqb (em i).p 0;
+        own = eo ∙ there (eqb mux.p 0) full.own ∙ (λ i. cond (eqb (em i).p 0) None (Some (ef.own i)));
         full = ef;
         even = λ i. full.layered || (et i || full.sure);
         flat = λ o.
@@ -74,16 +79,18 @@ own_plain k combiner a b h false e =
     let rest = cond (eqb k 2) combiner.blend combiner.fog in
     (λ i. cond (e i) a (cond (h i) a rest)) ∙ sym (λ i. cond (e i) b (cond (h i) b rest))
 
-pub own_bytes : (paint : Paint) → Prepared paint → Own paint.mode paint.combiner paint.plain paint.own
+pub own_bytes : (paint : Paint) → Prepared paint → Own paint.mode paint.combiner paint.own
 unfolding own_colors own_of
 own_bytes paint i color o =
     let k = (mux_of paint.mode.blender_mux).p in
-    let e = own_plain k paint.combiner color paint.color (opaque paint.mode color.a o).own paint.plain (sym i.plain) in
-    sym (ap colors_of e ∙ chosen paint.plain)
+    let p = source_of k paint.combiner paint.color paint.color in
+    ap (λ (own : Option Colors). unwrap_or own (colors_of color)) i.own
+    ∙ chosen p (eqb k 0)
+    ∙ sym (ap colors_of (own_plain k paint.combiner color paint.color (opaque paint.mode color.a o).own (eqb k 0) refl))
   where
-    chosen : (b : Bool) → colors_of (cond b color (source_of (mux_of paint.mode.blender_mux).p paint.combiner paint.color paint.color)) ≡ cond b (colors_of color) paint.own
-    chosen true = refl
-    chosen false = sym i.own
+    chosen : (p : Rgba) (b : Bool) → unwrap_or (cond b None (Some (colors_of p))) (colors_of color) ≡ colors_of (cond b color p)
+    chosen p true = refl
+    chosen p false = refl
 
 -- ---- the shade's alpha
 -- what is stored of a pixel of the paint's own colour does not turn on it, where what full pixels need is enough

@@ -14,15 +14,14 @@ use Rattle.frame_pixel.specs.declared.Pixel.{Pixel}
 use Rattle.std.specs.Prelude.{None, Some}
 use Rattle.blender.specs.declared.Source.{Source}
 use Rattle.frame_pixel.specs.Marks.{color_marked, coverage_marked, coverage_of}
-use Rattle.frame_pixel.specs.Rules.{pixel_step}
+use Rattle.frame_pixel.specs.Rules.{rule_f4, pixel_step}
 use Rattle.blender.specs.Blend.{or_zero}
 use Rattle.frame_pixel.specs.Alike.{AlikePixel}
 use Rattle.frame_pixel.proofs.Alike.{pixel_alike, kept_colors, kept_coverage}
 use Rattle.combiner_resolved.specs.Resolved.{color_value}
-use Rattle.raster_pixel.specs.declared.Fragment.TheVariants.{Empty}
 use Rattle.raster_pixel.specs.Emitted.{shown, covered, emits}
 use Rattle.frame.specs.Frame.{Frame, frame_of, pixel_at, put_pixel}
-use Rattle.frame.specs.Fits.{Fit, known_pixel, put_if, put_known}
+use Rattle.frame.specs.Fits.{Fit, known_pixel, with_colors, with_coverage, put_known}
 use Rattle.frame_paint.specs.Steps.{step_frame}
 use Rattle.frame_paint.specs.Pixel.{Drew, emit_of}
 use Rattle.frame_paint.specs.declared.rows.Hue.{Hue}
@@ -80,7 +79,7 @@ module _ (f : Frame) (p : ℕ) (x y : Pixel) (a : AlikePixel x y) (room : 3 * p 
     where
       go :
           (b : Bool) → color_marked x.mark ≡ b
-          → put_if b (put_if b (put_if b f.colors (3 * p) x.red) (3 * p + 1) x.green) (3 * p + 2) x.blue ≡ (put_pixel f p y).colors
+          → with_colors f.colors p (cond b (Some (rule_f4 x)) None) ≡ (put_pixel f p y).colors
       go true e = λ i. set (set (set f.colors (3 * p) (a.red e i)) (3 * p + 1) (a.green e i)) (3 * p + 2) (a.blue e i)
       go false e =
           let k = kept (ap color_marked (sym a.mark) ∙ e) in
@@ -89,7 +88,7 @@ module _ (f : Frame) (p : ℕ) (x y : Pixel) (a : AlikePixel x y) (room : 3 * p 
   known_coverages : (coverage_marked y.mark ≡ false → y.coverage ≡ get_or f.coverages p 0) → (put_known f p x).coverages ≡ (put_pixel f p y).coverages
   known_coverages kept = go (coverage_marked x.mark) refl
     where
-      go : (b : Bool) → coverage_marked x.mark ≡ b → put_if b f.coverages p x.coverage ≡ (put_pixel f p y).coverages
+      go : (b : Bool) → coverage_marked x.mark ≡ b → with_coverage f.coverages p (cond b (Some x.coverage) None) ≡ (put_pixel f p y).coverages
       go true e = λ i. set f.coverages p (a.coverage e i)
       go false e = sym (ap (set f.coverages p) (kept (ap coverage_marked (sym a.mark) ∙ e)) ∙ set_back f.coverages p place)
 
@@ -114,7 +113,7 @@ module _ (mode : RenderMode) (k : Combiner) (mask : ℕ) (hue : Hue) (w y x : �
   pub pixel_none : shown mode.antialias mask ≡ false → Drew mode k n (pixel_of mode.antialias mask hue w y x) f f 0
   unfolding pixel_of
   pixel_none h =
-      subst (λ (b : Bool). Drew mode k n (emits (cond b (covered mask (color_value hue.color) hue.shade_alpha) Empty) (y * w + x)) f f 0) (sym h)
+      subst (λ (b : Bool). Drew mode k n (emits (cond b (covered mask (color_value hue.color) hue.shade_alpha) None) (y * w + x)) f f 0) (sym h)
       (record { ran = record { state = refl; count = refl }; fit = fit })
 
   pub pixel_one :
@@ -123,7 +122,7 @@ module _ (mode : RenderMode) (k : Combiner) (mask : ℕ) (hue : Hue) (w y x : �
       → Drew mode k n (pixel_of mode.antialias mask hue w y x) f g 1
   unfolding pixel_of
   pixel_one {g} h c t =
-      subst (λ (b : Bool). Drew mode k n (emits (cond b (covered mask (color_value hue.color) hue.shade_alpha) Empty) (y * w + x)) f g 1) (sym h)
+      subst (λ (b : Bool). Drew mode k n (emits (cond b (covered mask (color_value hue.color) hue.shade_alpha) None) (y * w + x)) f g 1) (sym h)
       (record {
         ran = record { state = t; count = refl };
         fit = subst (Fit n) (sym t) (fit_step mode k (emit_of (y * w + x) mask hue.color hue.shade_alpha) fit c.0 c.1);

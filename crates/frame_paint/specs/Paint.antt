@@ -1,5 +1,5 @@
 -- Inner vocabulary. What does not turn on the pixel, worked out once a draw. Definitions only.
-use Rattle.std.specs.Prelude.{◌≡◌, Bool, true, cond, ◌||◌, eqb}
+use Rattle.std.specs.Prelude.{◌≡◌, true, cond, ◌||◌, eqb, Option, Some, None, unwrap_or}
 use Rattle.state.specs.declared.RenderMode.{RenderMode}
 use Rattle.state.specs.declared.Rgba.{Rgba}
 use Rattle.combiner.specs.declared.Combiner.{Combiner}
@@ -16,8 +16,8 @@ use Rattle.frame_paint.specs.declared.prepare.Paint.{Paint}
 pub record Prepared (paint : Paint) : Type 0 where
   pub resolved : paint.resolved ≡ resolved_of paint.combiner
   pub color : color_of paint.combiner full_shade ≡ color_value paint.color
-  pub own : paint.own ≡ own_colors paint.mode paint.combiner paint.color
-  pub plain : paint.plain ≡ eqb (mux_of paint.mode.blender_mux).p 0
+  -- where P is not the pixel's colour
+  pub own : paint.own ≡ cond (eqb (mux_of paint.mode.blender_mux).p 0) None (Some (own_colors paint.mode paint.combiner paint.color))
   pub full : FullOf paint.mode paint.combiner paint.color paint.full
   -- what full pixels of the colour need is enough for them
   pub even : paint.even ≡ (paint.full.layered || (steady_of paint.mode || paint.full.sure))
@@ -33,6 +33,6 @@ pub record Ready (paint : Paint) : Type 0 where
   pub prepared : Prepared paint
   pub mixes : Mixed paint.combiner
 
--- the bytes of an opaque pixel of any colour: its own where P is its colour, else the same for all
-abbrev pub Own : RenderMode → Combiner → Bool → Colors → Type 0
-Own mode k plain own = (color : Rgba) → opaque_of mode color.a ≡ true → cond plain (colors_of color) own ≡ own_colors mode k color
+-- the bytes of an opaque pixel of any colour: the same for all, else its own
+abbrev pub Own : RenderMode → Combiner → Option Colors → Type 0
+Own mode k own = (color : Rgba) → opaque_of mode color.a ≡ true → unwrap_or own (colors_of color) ≡ own_colors mode k color

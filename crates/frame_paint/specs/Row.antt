@@ -1,17 +1,19 @@
 -- Inner vocabulary. What a row of a triangle or of a rectangle emits, as it is drawn: by its shades, or, where it is flat, in one colour. Definitions only.
-use Rattle.std.specs.Prelude.{◌≡◌, Bool, true, cond, List, [], ◌∷◌, ℕ, ◌+◌, ◌*◌, ◌<◌, ◌≤◌}
+use Rattle.std.specs.Prelude.{◌≡◌, Bool, true, cond, ◌||◌, List, [], ◌∷◌, ℕ, ◌+◌, ◌*◌, ◌<◌, ◌≤◌, Option, Some, None}
+use Rattle.std.specs.Bool.{then_some}
 use Rattle.num_float.specs.Color.{f1}
 use Rattle.state.specs.declared.Rgba.{Rgba}
 use Rattle.combiner_resolved.specs.declared.Resolved.{Resolved}
 use Rattle.combiner_resolved.specs.Resolved.{color_value, mixed_by}
+use Rattle.frame_pixel.specs.declared.Colors.{Colors}
 use Rattle.frame_pixel.specs.declared.full.Full.{Full}
+use Rattle.frame_pixel.specs.Coloring.{over_colors}
 use Rattle.frame_pixel.specs.Full.{full_step}
 use Rattle.raster_range.specs.declared.Range.{Range}
 use Rattle.raster_edges.specs.declared.Edges.{Edges}
 use Rattle.raster_edges.specs.Sample.{mask_of}
 use Rattle.raster_vertex.specs.declared.row.ShadeRow.{ShadeRow}
 use Rattle.raster_vertex.specs.Row.{shade_on}
-use Rattle.raster_pixel.specs.declared.Fragment.TheVariants.{Empty}
 use Rattle.raster_pixel.specs.Emitted.{Emit, shown, covered, emits}
 use Rattle.frame.specs.Frame.{Frame, pixel_at, put_pixel}
 use Rattle.frame_paint.specs.declared.prepare.Paint.{Paint}
@@ -25,7 +27,7 @@ hue_of resolved color flat row x =
 
 -- pixel x of row y in a frame of width w, with these samples
 unfoldable pub pixel_of : Bool → ℕ → Hue → ℕ → ℕ → ℕ → List Emit
-pixel_of antialias mask hue w y x = emits (cond (shown antialias mask) (covered mask (color_value hue.color) hue.shade_alpha) Empty) (y * w + x)
+pixel_of antialias mask hue w y x = emits (cond (shown antialias mask) (covered mask (color_value hue.color) hue.shade_alpha) None) (y * w + x)
 
 -- the same between the edges e of row y
 abbrev pub row_at : Paint → Bool → ShadeRow → Edges → ℕ → ℕ → ℕ → List Emit
@@ -39,6 +41,10 @@ full_pixel color p = emit_of p 255 color f1 ∷ []
 
 abbrev pub full_at : Rgba → ℕ → ℕ → ℕ → List Emit
 full_at color w y x = full_pixel color (y * w + x)
+
+-- its colour, if it is then known, by whether the memory's colour and its coverage are
+abbrev pub full_color : Full → Bool → Bool → Colors → Option Colors
+full_color full marked covered memory = cond full.layered (cond marked (Some (over_colors full.layer memory)) None) (then_some (full.sure || covered) full.own)
 
 -- what is stored of it
 abbrev pub filled_at : Full → Frame → ℕ → Frame

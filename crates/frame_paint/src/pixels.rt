@@ -10,7 +10,8 @@ use crate::prepare::coloring_of;
 use blender::Source;
 use combiner::Combiner;
 use frame_pixel::Colors;
-use state::{RenderMode, Rgba};
+use raster_pixel::Fragment;
+use state::RenderMode;
 
 // F1 to F5 at a pixel's place. What is known ahead of it is asked after the bytes are read: so it goes through no memory.
 pub fn draw_pixel(
@@ -19,27 +20,23 @@ pub fn draw_pixel(
     marks: &mut [u8],
     mode: RenderMode,
     combiner: Combiner,
-    plain: bool,
-    own: Colors,
-    mask: u8,
-    color: Rgba,
-    shade_alpha: f32,
+    own: Option<Colors>,
+    fragment: Fragment,
     pixel: usize,
 )
-    requires mask_nonzero { 0 < mask }
+    requires mask_nonzero { 0 < fragment.mask }
     requires pixel_in_bounds { pixel < length marks.old }
     requires fit { Fit (length marks.old) (lent colors coverages marks) }
-    requires own { Own mode combiner plain own }
-    ensures { after colors coverages marks ≡ step_frame mode combiner (before colors coverages marks) (emit_of pixel mask color shade_alpha) }
+    requires own { Own mode combiner own }
+    ensures { after colors coverages marks ≡ step_frame mode combiner (before colors coverages marks) (emit_of pixel fragment.mask fragment.color fragment.shade_alpha) }
 {
     let before = frame::known_pixel(colors, coverages, marks, pixel);
-    let count = num_bits::ones(mask);
     let source = Source {
-        color,
-        shade_alpha,
-        count,
+        color: fragment.color,
+        shade_alpha: fragment.shade_alpha,
+        count: num_bits::ones(fragment.mask),
     };
-    let coloring = coloring_of(mode, combiner, plain, own, color);
+    let coloring = coloring_of(mode, combiner, own, fragment.color);
     let after = frame_pixel::step(mode, combiner, source, coloring, before);
     frame::put_pixel(colors, coverages, marks, pixel, after);
 }

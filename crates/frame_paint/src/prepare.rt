@@ -1,12 +1,11 @@
-// What does not turn on the pixel is worked out once a draw: the combiner resolved, the colour that it gives for the shade 1.0, the bytes of that, whether P is the pixel's
-// colour, what full pixels of that colour need, whether that is enough for them, and whether a triangle's pixels all have it.
-ghost use Rattle.std.specs.Prelude.{◌≡◌, cond};
-ghost use Rattle.combiner_resolved.specs.Resolved.{color_value};
+// What does not turn on the pixel is worked out once a draw: the combiner resolved, the colour that it gives for the shade 1.0, the bytes that every opaque pixel has unless P
+// is the pixel's colour, what full pixels of that colour need, whether that is enough for them, and whether a triangle's pixels all have it.
+ghost use Rattle.std.specs.Prelude.{◌≡◌, unwrap_or};
 ghost use Rattle.frame_pixel.specs.Coloring.{colors_of, ColoringOf};
 ghost use Rattle.frame_paint.specs.Paint.{Prepared, Mixed, Own};
 
 use blender::layer::{layer_of, layered};
-use combiner::{Color, Combiner};
+use combiner::Combiner;
 use combiner_resolved::Resolved;
 use frame_pixel::full::Full;
 use frame_pixel::{Coloring, Colors};
@@ -18,59 +17,43 @@ pub struct Paint {
     pub combiner: Combiner,
     pub resolved: Resolved,
     pub color: Rgba,
-    pub own: Colors,
-    pub plain: bool,
+    pub own: Option<Colors>,
     pub full: Full,
     pub even: bool,
     pub flat: bool,
 }
 
-// The bytes of an opaque pixel's colour: of this one where P is the pixel's colour, else those that all pixels have.
-fn bytes_of(plain: bool, own: Colors, color: Rgba) -> Colors
-    ensures { result ≡ cond plain (colors_of color) own }
+// The bytes of an opaque pixel's colour: those that all pixels have, else of this one, which are worked out only then.
+fn bytes_of(own: Option<Colors>, color: Rgba) -> Colors
+    ensures { result ≡ unwrap_or own (colors_of color) }
 {
-    if plain {
-        let red = num_float::byte_of(color.r);
-        let green = num_float::byte_of(color.g);
-        let blue = num_float::byte_of(color.b);
-        return Colors { red, green, blue };
+    match own {
+        Some(own) => own,
+        None => Colors {
+            red: num_float::byte_of(color.r),
+            green: num_float::byte_of(color.g),
+            blue: num_float::byte_of(color.b),
+        },
     }
-    own
 }
 
 // What is known ahead of a pixel of this colour.
 pub fn coloring_of(
     mode: RenderMode,
     combiner: Combiner,
-    plain: bool,
-    own: Colors,
+    own: Option<Colors>,
     color: Rgba,
 ) -> Coloring
-    requires { Own mode combiner plain own }
+    requires { Own mode combiner own }
     ensures { ColoringOf mode combiner color result }
 {
     if blender::opaque(mode, color.a) {
-        return Coloring::Opaque(bytes_of(plain, own, color));
+        return Coloring::Opaque(bytes_of(own, color));
     }
     if layered(mode, color.a) {
         return Coloring::Layered(layer_of(mode, combiner, color));
     }
     Coloring::Blended
-}
-
-// A colour that is there.
-fn color_of(color: Color) -> Rgba
-    ensures { (c : Rgba) → color ≡ color_value c → result ≡ c }
-{
-    let Color::Value(r, g, b, a) = color else {
-        return Rgba {
-            r: 0.0,
-            g: 0.0,
-            b: 0.0,
-            a: 0.0,
-        };
-    };
-    Rgba { r, g, b, a }
 }
 
 pub fn prepare(mode: RenderMode, combiner: Combiner) -> Paint
@@ -80,21 +63,19 @@ pub fn prepare(mode: RenderMode, combiner: Combiner) -> Paint
     ensures prepared { Prepared result }
 {
     let resolved = combiner_resolved::resolve(combiner);
-    let color = color_of(combiner.color(combiner::full_shade()));
+    let color = combiner.color(combiner::full_shade()).unwrap();
     let full = frame_pixel::full::full_of(mode, combiner, color);
-    let own = full.own;
     let steady = blender::layer::steady(mode);
     let even = full.layered | (steady | full.sure);
     let shaded = combiner_resolved::shaded::uses_shade(combiner);
     let mux = blender::decode_mux(mode.blender_mux);
-    let plain = mux.p == 0;
+    let own = (mux.p != 0).then_some(full.own);
     Paint {
         mode,
         combiner,
         resolved,
         color,
         own,
-        plain,
         full,
         even,
         flat: even & !shaded,

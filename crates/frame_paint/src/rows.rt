@@ -14,6 +14,7 @@ use combiner::Combiner;
 use combiner_resolved::Resolved;
 use frame_pixel::Colors;
 use raster_edges::Edges;
+use raster_pixel::Fragment;
 use raster_range::Range;
 use raster_vertex::row::ShadeRow;
 use state::{RenderMode, Rgba};
@@ -51,8 +52,7 @@ fn row_pixel(
     mode: RenderMode,
     combiner: Combiner,
     resolved: Resolved,
-    plain: bool,
-    own: Colors,
+    own: Option<Colors>,
     color: Rgba,
     flat: bool,
     row: ShadeRow,
@@ -61,7 +61,7 @@ fn row_pixel(
     y: u32,
     x: u32,
 ) -> u64
-    requires x_lt_width { (x < width) × Own mode combiner plain own }
+    requires x_lt_width { (x < width) × Own mode combiner own }
     requires room { Room width (y + 1) (lent colors coverages marks) }
     ensures { DrewOn mode combiner (pixel_of mode.antialias mask (hue_of resolved color flat row x) width y x) colors coverages marks result }
 {
@@ -69,6 +69,11 @@ fn row_pixel(
         return 0;
     }
     let hue = hue_at(resolved, color, flat, row, x);
+    let fragment = Fragment {
+        mask,
+        color: hue.color,
+        shade_alpha: hue.shade_alpha,
+    };
     let pixel = y * width + x;
     draw_pixel(
         colors,
@@ -76,11 +81,8 @@ fn row_pixel(
         marks,
         mode,
         combiner,
-        plain,
         own,
-        mask,
-        hue.color,
-        hue.shade_alpha,
+        fragment,
         pixel as usize,
     );
     1
@@ -116,7 +118,6 @@ fn draw_part(
         paint.mode,
         paint.combiner,
         paint.resolved,
-        paint.plain,
         paint.own,
         paint.color,
         flat,

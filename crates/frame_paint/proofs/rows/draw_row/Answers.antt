@@ -1,0 +1,26 @@
+use native.Mathlib.Nat.{le_trans}
+use native.Mathlib.Omega.{arith}
+use mathlib.Core.Path.{refl}
+use Rattle.frame_paint.proofs.Drawing.{drawing_by_fits, drawing_by, drawing_done}
+use Rattle.frame_paint.proofs.Joins.{row_most}
+use Rattle.frame_paint.proofs.rows.draw_row.Goals as goal
+
+pub overflow_add-n : goal.overflow_add-n
+overflow_add-n c =
+    let a = c.args in
+    let n = c.part_end-next.ensures.within in
+    omega (
+      arith,
+      le_trans (drawing_by_fits _ _ _ _ _ _ (omega (arith, n.0)) n.1 c.loop-x.invariant c.draw_part-n.ensures)
+          (row_most a.paint a.flat a.row a.edges a.width a.y a.start a.end),
+      c.requires.start_le_end.1,
+      c.requires.room.wide,
+    )
+
+pub loop-x-preserved : goal.loop-x-preserved
+loop-x-preserved c =
+    let n = c.part_end-next.ensures.within in
+    drawing_by _ _ _ _ _ _ (omega (arith, n.0)) n.1 c.loop-x.invariant c.draw_part-n.ensures refl
+
+pub returns : goal.returns
+returns c = drawing_done _ _ _ _ _ _ c.loop-x-test.false c.loop-x.invariant
