@@ -1,9 +1,13 @@
 // The text of a program's input.
-ghost use Rattle.std.specs.Prelude.{◌<◌, ◌≤◌, length, take, IfOk};
+ghost use Rattle.std.specs.Prelude.{◌<◌, ◌≤◌, length, take, IfOk, IfSome};
 ghost use Rattle.std.specs.Io.KnownBytes.{Consumes, IsAtEnd};
 
+use std::alloc::Global;
 use std::io;
 use std::io::Read;
+
+// One more than the longest input that the programs take.
+pub const SPACE: usize = 524288;
 
 // Reads until buf is full or the input ends, and gives how many bytes it put at the start of buf.
 pub fn read_full<R: Read>(input: &mut R, buf: &mut [u8]) -> io::Result<usize>
@@ -20,4 +24,35 @@ pub fn read_full<R: Read>(input: &mut R, buf: &mut [u8]) -> io::Result<usize>
         done += n;
     }
     Ok(done)
+}
+
+// The whole input, where it is shorter than `space`.
+pub fn read_text<R: Read>(alloc: Global, input: &mut R, space: usize) -> io::Result<Option<Vec<u8>>>
+    ensures short { IfOk result (λ read. IfSome read (λ text. length text.items < space)) }
+    ensures bytes { IfOk result (λ read. IfSome read (λ text. Consumes (R.remaining input.old) (R.remaining input.new) text.items)) }
+    ensures whole { IfOk result (λ read. IfSome read (λ text. IsAtEnd (R.remaining input.new))) }
+{
+    let mut text = vec![in alloc; 0u8; space]?;
+    let n = read_full(input, &mut text)?;
+    if n == space {
+        return Ok(None);
+    }
+    text.truncate(n);
+    Ok(Some(text))
+}
+
+#[cfg(test)]
+mod tests {
+    use super::*;
+    use std::test::Fail;
+
+    #[test]
+    fn reads_what_is_shorter(rt: HostRuntime) -> Result<(), Fail> {
+        let mut input: &[u8] = &[1, 2, 3];
+        let text = read_text(rt.alloc(), &mut input, 4)?.ok_or("too long")?;
+        assert_eq!(rt; text.as_slice(), [1u8, 2, 3].as_slice());
+        let mut input: &[u8] = &[1, 2, 3, 4];
+        assert!(rt; read_text(rt.alloc(), &mut input, 4)?.is_none());
+        Ok(())
+    }
 }

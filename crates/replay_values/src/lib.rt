@@ -1,6 +1,7 @@
 // What the lines of recorded answers are made of, for the programs that replay them.
 #![tactic(auto)]
 
+pub mod counts; // how many calls agree
 pub mod input; // the text
-pub mod line; // words
-pub mod values; // and what they stand for
+pub mod line; // a line's words, lists and strings
+pub mod values; // what words stand for

@@ -1,73 +1,162 @@
-// A line's words: eight lowercase hexadecimal digits each, after a space.
-ghost use Rattle.std.specs.Prelude.{◌+◌, ◌*◌, ◌≤◌, length};
+// A line from its start on: words of eight lowercase hexadecimal digits, lists of words and strings of bytes, each after a space.
+// It is bytes and no `&str`, since a line that is no text is a disagreement, and printed as it came.
+ghost use Rattle.std.specs.Prelude.{◌≡◌, ◌+◌, ◌<◌, ◌≤◌, ◌==◌, false, ◌++◌, length, IfSome, IsSome, IsNone, IsSomeAnd, MatchOption};
 
-// The arguments and the answers of a call. No call has more.
-pub type Words = [u32; 128];
+use arrayvec::ArrayVec;
 
+// What is left of a line, and nothing once a read has found something else: then each later read finds nothing, too.
 #[derive(Clone, Copy)]
-pub enum Word {
-    Value(u32),
-    Missing,
+pub struct Line<'a> {
+    pub rest: Option<&'a [u8]>,
 }
 
-// What a digit is worth, or 16 if it is none.
-pub fn digit(b: u8) -> u32
-    ensures { result ≤ 16 }
+// What is read from a line's next words.
+pub trait FromLine: Sized {
+    fn from_line(line: &mut Line<'_>) -> Option<Self>;
+}
+
+// What a digit is worth.
+fn digit(b: u8) -> Option<u32>
+    ensures { IfSome result (λ worth. worth < 16) }
 {
     match b {
-        b'0'..=b'9' => (b - b'0') as u32,
-        b'a'..=b'f' => (b - b'a') as u32 + 10,
-        _ => 16,
+        b'0'..=b'9' => Some(u32::from(b - b'0')),
+        b'a'..=b'f' => Some(u32::from(b - b'a') + 10),
+        _ => None,
     }
 }
 
-// The word after the space at `at`. The remainder changes no value: eight digits fit.
-pub fn word_at(s: &[u8], at: usize) -> Word
-    requires { at + 9 ≤ length s.now }
-{
-    if s[at] != b' ' {
-        return Word::Missing;
+impl<'a> Line<'a> {
+    pub fn new(text: &'a [u8]) -> Line<'a>
+        ensures { IsSomeAnd result.rest (λ rest. rest.now ≡ text.now) }
+    {
+        Line { rest: Some(text) }
     }
-    let mut value: u32 = 0;
-    let mut i = 1;
-    while i < 9 {
-        let worth = digit(s[at + i]);
-        if worth > 15 {
-            return Word::Missing;
+
+    // Whether the line is read to its end.
+    pub fn has_ended(&self) -> bool
+        ensures { MatchOption self.now.rest (result ≡ false) (λ rest. result ≡ (length rest.now == 0)) }
+    {
+        self.rest.is_some_and(|rest| rest.is_empty())
+    }
+
+    // Goes on behind a text.
+    pub fn skip(&mut self, text: &[u8]) -> Option<()>
+        ensures { MatchOption self.new.rest (IsNone result) (λ new. IsSome result × IsSomeAnd self.old.rest (λ old. old.now ≡ text.now ++ new.now)) }
+    {
+        let rest = self.rest.take()?.strip_prefix(text)?;
+        self.rest = Some(rest);
+        Some(())
+    }
+
+    // The bytes before the next space.
+    pub fn name(&mut self) -> Option<&'a [u8]>
+        ensures { MatchOption self.new.rest (IsNone result) (λ new. IsSomeAnd result (λ name. IsSomeAnd self.old.rest (λ old. old.now ≡ name.now ++ new.now))) }
+    {
+        let line = self.rest.take()?;
+        let space = line.iter().position(|b| *b == b' ')?;
+        let (name, rest) = line.split_at(space);
+        self.rest = Some(rest);
+        Some(name)
+    }
+
+    // The number that `count` digits write.
+    fn digits(&mut self, count: usize) -> Option<u32>
+        ensures { MatchOption self.new.rest (IsNone result) (λ new. IsSome result × IsSomeAnd self.old.rest (λ old. length old.now ≡ count + length new.now)) }
+    {
+        let (digits, rest) = self.rest.take()?.split_at_checked(count)?;
+        let mut number = 0;
+        for b in digits {
+            number = (number << 4) | digit(*b)?;
         }
-        value = (value % 0x1000_0000) * 16 + worth;
-        i += 1;
+        self.rest = Some(rest);
+        Some(number)
     }
-    Word::Value(value)
-}
 
-// Puts `count` words into w from `first` on. Whether all of them are words.
-pub fn fill(s: &[u8], at: usize, w: &mut Words, first: usize, count: usize) -> bool
-    requires { (at + 9 * count ≤ length s.now) × (first + count ≤ 128) }
-{
-    let mut i = 0;
-    while i < count {
-        let next = word_at(s, at + 9 * i);
-        let Word::Value(value) = next else {
-            return false;
-        };
-        w[first + i] = value;
-        i += 1;
+    pub fn read<T: FromLine>(&mut self) -> Option<T> {
+        T::from_line(self)
     }
-    true
-}
 
-// Where the line that starts at `at` ends: at a newline or at the end of the text.
-pub fn line_end(s: &[u8], at: usize) -> usize
-    requires { at ≤ length s.now }
-    ensures { (at ≤ result) × (result ≤ length s.now) }
-{
-    let mut end = at;
-    while end < s.len() {
-        if s[end] == b'\n' {
-            return end;
+    // A word below a limit.
+    pub fn below(&mut self, limit: u8) -> Option<u8>
+        ensures { IfSome result (λ number. number < limit) }
+    {
+        let number = self.read::<u8>()?;
+        (number < limit).then_some(number)
+    }
+
+    // How many elements a list or a string has.
+    fn count(&mut self, limit: usize) -> Option<usize>
+        ensures { IfSome result (λ count. count ≤ limit) }
+    {
+        let count = self.read::<usize>()?;
+        (count <= limit).then_some(count)
+    }
+
+    pub fn list<T: FromLine + Default + Drop, const N: usize>(&mut self) -> Option<ArrayVec<T, N>> {
+        let mut list = ArrayVec::new();
+        for _ in 0..self.count(N)? {
+            list.try_push(self.read()?).ok()?;
         }
-        end += 1;
+        Some(list)
     }
-    end
+
+    // A string is two digits for each byte, with a space before the first. Bytes that the line lacks are zeros, and it is broken.
+    pub fn string<const N: usize>(&mut self) -> Option<ArrayVec<u8, N>> {
+        let mut string = ArrayVec::new();
+        let count = self.count(N)?;
+        if count > 0 {
+            let _ = self.skip(b" "); // which breaks the line, if anything
+        }
+        for _ in 0..count {
+            let byte = self.digits(2).unwrap_or(0);
+            string.try_push((byte % 256) as u8).ok()?; // two digits fit
+        }
+        Some(string)
+    }
+}
+
+impl FromLine for u32 {
+    fn from_line(line: &mut Line<'_>) -> Option<u32> {
+        line.skip(b" ")?;
+        line.digits(8)
+    }
+}
+
+impl FromLine for u8 {
+    fn from_line(line: &mut Line<'_>) -> Option<u8> {
+        u8::try_from(line.read::<u32>()?).ok()
+    }
+}
+
+impl FromLine for u16 {
+    fn from_line(line: &mut Line<'_>) -> Option<u16> {
+        u16::try_from(line.read::<u32>()?).ok()
+    }
+}
+
+impl FromLine for usize {
+    fn from_line(line: &mut Line<'_>) -> Option<usize> {
+        Some(line.read::<u32>()? as usize)
+    }
+}
+
+// Two words, the upper half first.
+impl FromLine for u64 {
+    fn from_line(line: &mut Line<'_>) -> Option<u64> {
+        let upper = u64::from(line.read::<u32>()?);
+        Some((upper << 32) | u64::from(line.read::<u32>()?))
+    }
+}
+
+impl FromLine for bool {
+    fn from_line(line: &mut Line<'_>) -> Option<bool> {
+        Some(line.below(2)? == 1)
+    }
+}
+
+impl<T: FromLine + Drop> FromLine for [T; 4] {
+    fn from_line(line: &mut Line<'_>) -> Option<[T; 4]> {
+        Some([line.read()?, line.read()?, line.read()?, line.read()?])
+    }
 }
