@@ -1,68 +1,108 @@
-// Whether the port's answer is the recorded one, in the words from `at` on.
-ghost use Rattle.std.specs.Prelude.{◌+◌, ◌≤◌};
-
-use c_answers::Answer;
-use c_types::Parts;
-use replay_values::line::Words;
-use replay_values::values::{float, word};
+// Whether the port's answer is the recorded one.
+use c_answers::{Answer, ColorAnswer, CombinerAnswer, StrictAnswer};
+use c_types::{Parts, Selectors};
+use replay_values::line::Line;
 use state::Rgba;
 
-// A word in two's complement: a negative number is the complement of what is left to all ones.
-pub fn signed(word: u32) -> i64 {
-    if word < 0x8000_0000 {
-        word as i64
-    } else {
-        !((0xffff_ffff - word) as i64)
+// What the port answers, and a line records in its next words.
+pub trait Recorded {
+    // Whether the two are the same, or None where the line has something else.
+    fn is_next(&self, line: &mut Line<'_>) -> Option<bool>;
+}
+
+impl Recorded for u32 {
+    fn is_next(&self, line: &mut Line<'_>) -> Option<bool> {
+        Some(line.read::<u32>()? == *self)
     }
 }
 
-// Equal, or both NaN: only a NaN differs from itself.
-pub fn same_float(x: f32, bits: u32) -> bool {
-    let y = float(bits);
-    let equal = x == y;
-    let both = (x != x) & (y != y);
-    equal | both
+impl Recorded for bool {
+    fn is_next(&self, line: &mut Line<'_>) -> Option<bool> {
+        Some(line.read::<bool>()? == *self)
+    }
 }
 
-pub fn same_rgba(c: Rgba, w: &Words, at: usize) -> bool
-    requires { at + 4 ≤ 128 }
-{
-    let r = same_float(c.r, w[at]);
-    let g = same_float(c.g, w[at + 1]);
-    let b = same_float(c.b, w[at + 2]);
-    let a = same_float(c.a, w[at + 3]);
-    r & g & b & a
+// In two's complement.
+impl Recorded for i64 {
+    fn is_next(&self, line: &mut Line<'_>) -> Option<bool> {
+        Some(i64::from(line.read::<u32>()?.cast_signed()) == *self)
+    }
 }
 
-fn wide(number: u8) -> u32 {
-    number as u32
+// Equal, or both NaN.
+impl Recorded for f32 {
+    fn is_next(&self, line: &mut Line<'_>) -> Option<bool> {
+        let recorded: f32 = line.read()?;
+        Some(recorded == *self || (recorded.is_nan() && self.is_nan()))
+    }
 }
 
-pub fn same_selectors(s: [u8; 8], w: &Words, at: usize) -> bool {
-    let first = (wide(s[0]) == word(w, at, 0)) & (wide(s[1]) == word(w, at, 1));
-    let second = (wide(s[2]) == word(w, at, 2)) & (wide(s[3]) == word(w, at, 3));
-    let third = (wide(s[4]) == word(w, at, 4)) & (wide(s[5]) == word(w, at, 5));
-    let fourth = (wide(s[6]) == word(w, at, 6)) & (wide(s[7]) == word(w, at, 7));
-    first & second & third & fourth
+impl Recorded for Rgba {
+    fn is_next(&self, line: &mut Line<'_>) -> Option<bool> {
+        let Rgba { r, g, b, a } = *self;
+        Some(r.is_next(line)? & g.is_next(line)? & b.is_next(line)? & a.is_next(line)?)
+    }
 }
 
-pub fn same_combiner(c: Parts, w: &Words, at: usize) -> bool
-    requires { at + 25 ≤ 128 }
-{
-    let numbers = c.selectors;
-    let selectors = same_selectors(numbers, w, at);
-    let prim = same_rgba(c.prim, w, at + 8);
-    let env = same_rgba(c.env, w, at + 12);
-    let blend = same_rgba(c.blend, w, at + 16);
-    let fog = same_rgba(c.fog, w, at + 20);
-    let lod = same_float(c.lod, w[at + 24]);
-    selectors & prim & env & blend & fog & lod
+// A combiner's inputs, or a cycle's.
+impl Recorded for [u8; 8] {
+    fn is_next(&self, line: &mut Line<'_>) -> Option<bool> {
+        let mut same = true;
+        for selector in self {
+            same &= u32::from(*selector).is_next(line)?;
+        }
+        Some(same)
+    }
 }
 
-pub fn same_answer(answer: Answer, w: &Words, at: usize) -> bool
-    requires { at + 2 ≤ 128 }
-{
-    let number = answer.number == w[at];
-    let value = answer.value == w[at + 1];
-    number & value
+impl Recorded for Selectors {
+    fn is_next(&self, line: &mut Line<'_>) -> Option<bool> {
+        let Selectors {
+            raw_l,
+            raw_h,
+            cyc0,
+            cyc1,
+        } = *self;
+        let words = raw_l.is_next(line)? & raw_h.is_next(line)?;
+        Some(words & cyc0.is_next(line)? & cyc1.is_next(line)?)
+    }
+}
+
+impl Recorded for Parts {
+    fn is_next(&self, line: &mut Line<'_>) -> Option<bool> {
+        let Parts {
+            selectors,
+            prim,
+            env,
+            blend,
+            fog,
+            lod,
+        } = *self;
+        let colors = selectors.is_next(line)? & prim.is_next(line)? & env.is_next(line)?;
+        Some(colors & blend.is_next(line)? & fog.is_next(line)? & lod.is_next(line)?)
+    }
+}
+
+impl Recorded for Answer {
+    fn is_next(&self, line: &mut Line<'_>) -> Option<bool> {
+        Some(self.number.is_next(line)? & self.value.is_next(line)?)
+    }
+}
+
+impl Recorded for ColorAnswer {
+    fn is_next(&self, line: &mut Line<'_>) -> Option<bool> {
+        Some(self.some.is_next(line)? & self.rgba.is_next(line)?)
+    }
+}
+
+impl Recorded for StrictAnswer {
+    fn is_next(&self, line: &mut Line<'_>) -> Option<bool> {
+        Some(self.some.is_next(line)? & u32::from(self.word).is_next(line)?)
+    }
+}
+
+impl Recorded for CombinerAnswer {
+    fn is_next(&self, line: &mut Line<'_>) -> Option<bool> {
+        Some(self.some.is_next(line)? & self.combiner.is_next(line)?)
+    }
 }
