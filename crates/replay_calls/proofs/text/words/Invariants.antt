@@ -1,9 +1,0 @@
--- The measure is the words that are left; a store leaves the lengths.
-use Rattle.std.proofs.Common.{◌-◌, ◌≤◌}
-use Rattle.replay_calls.proofs.text.words.Given as goal
-
-abbrev pub invariant-loop-i : goal.invariant-loop-i
-invariant-loop-i l = l.i ≤ l.count
-
-abbrev pub decreases-loop-i : goal.decreases-loop-i
-decreases-loop-i l = l.count - l.i
