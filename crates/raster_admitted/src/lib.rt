@@ -62,10 +62,7 @@ fn reads_shade(s: CycleSel) -> bool
 fn alpha_differs(alpha: f32, color: Option<Rgba>) -> bool
     ensures { result ≡ alpha_differs alpha color }
 {
-    match color {
-        Some(color) => color.a != alpha,
-        None => true,
-    }
+    color.is_none_or(|color| color.a != alpha)
 }
 
 // Check 2.
