@@ -1,6 +1,6 @@
 -- A chain of signed operations, one law for each. `Held n z B` says that the 64 bits n, read as signed, are z, and that z's size is at most B.
 -- Each operation's law takes its operands' `Held` and gives the result's, with a bound that is computed: where the bounds are numerals, `tt` shows that nothing overflows.
--- The law whose name begins `fit-` is what the operation's need asks. Assumes nothing.
+-- The law whose name begins `fit_` is what the operation's need asks. Assumes nothing.
 use Prim.Native.Nat.{ℕ, ◌+◌, ◌*◌, ◌/◌, ◌%◌, ◌-◌, ◌^◌, ◌≤◌, ◌<◌}
 use mathlib.Core.Path.{◌≡◌, refl, sym, ap, ◌∙◌, subst}
 use native.Mathlib.Nat.{le_refl, le_trans, mul-le-mul, mul-le-mul_right, mul-div-le}
@@ -147,16 +147,7 @@ part {m} {x} p M t = made (ap (λ (z : ℤ). shr_z z M) p.read) (by x p.size) tt
     by (pos a) h = omega (arith, twice a)
     by (negsuc a) h = omega (arith, twice a)
 
--- a literal added to that
-pub fit_plus : {m : ℕ} {x : ℤ} (k : ℕ) → Held m x (2 ^ 62) → T (ltb k (2 ^ 62)) → SFits w64 (to_z w64 m +ℤ pos k)
-fit_plus {m} {x} k p t =
-    subst (λ (z : ℤ). SFits w64 (z +ℤ pos k)) (sym p.read)
-    (small_fits (x +ℤ pos k) (omega (arith, size_add x (pos k), p.size, ltb→lt k (2 ^ 62) t)))
-
 -- the difference of two coordinates in range
 module _ (x y : ℤ) (p : nat_abs x ≤ 8192) (q : nat_abs y ≤ 8192) where
   pub diff : Held (of_z w64 (to_z w64 (of_z w64 x) -ℤ to_z w64 (of_z w64 y))) (x -ℤ y) 16384
   diff = sub (small x p tt) (small y q tt) tt
-
-  pub fit_diff : SFits w64 (to_z w64 (of_z w64 x) -ℤ to_z w64 (of_z w64 y))
-  fit_diff = fit_sub (small x p tt) (small y q tt) tt
