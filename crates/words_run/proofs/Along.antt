@@ -1,14 +1,13 @@
 -- The loop along a run: the entries written so far, the place of the next pixel, and the count, whose rest is that of the answers left. Assumes nothing.
-use Prim.Native.Nat.{ℕ, ◌+◌, ◌-◌, ◌*◌, ◌/◌, ◌%◌, ◌≤◌, ◌<◌}
+use Prim.Native.Nat.{ℕ, ◌+◌, ◌-◌, ◌*◌, ◌≤◌, ◌<◌}
 use mathlib.Core.Path.{◌≡◌, ap, subst, ◌∙◌}
 use native.Mathlib.Omega.{arith}
 use Rattle.words_read.specs.Read.{WordAnswer}
 use Rattle.words_run.specs.Run.{answers_from, one_if, count_of}
-use Rattle.words_run.specs.Entries.{Entries, put_entry, Matched, Wrote, At}
+use Rattle.words_run.specs.Entries.{Entries, put_entry, Wrote, At}
 use Rattle.words_run.specs.declared.entry.Place.{Place}
-use Rattle.words_run.proofs.Entries.{wrote_none, wrote_more, wrote_less}
-use Rattle.words_run.proofs.Answers.{count_le, count_next, count_done}
-use Rattle.words_run.proofs.Columns.{at_first}
+use Rattle.words_run.proofs.Entries.{wrote_more}
+use Rattle.words_run.proofs.Answers.{count_le, count_next}
 
 module _ (answer : ℕ → WordAnswer) (w first count total : ℕ) (s₀ : Entries) where
   -- before entry i: the slices s, the count n and the place q
@@ -16,16 +15,6 @@ module _ (answer : ℕ → WordAnswer) (w first count total : ℕ) (s₀ : Entri
     pub place : At w (first + i) q
     pub wrote : Wrote answer 0 i total s₀ s
     pub counted : n + count_of (answers_from answer i (count - i)) ≡ count_of (answers_from answer 0 count)
-
-  pub along_start : 0 < w → Matched total s₀ → Along 0 s₀ 0 (record { x = first % w; y = first / w })
-  along_start h m =
-      let e : first ≡ first + 0 = omega arith in
-      let d : count - 0 ≡ count = omega arith in
-      record {
-        place = subst (λ (p : ℕ). At w p (record { x = first % w; y = first / w })) e (at_first w first h);
-        wrote = wrote_none answer 0 m;
-        counted = omega (arith, ap (λ (k : ℕ). count_of (answers_from answer 0 k)) d);
-      }
 
   module _ {i n r : ℕ} {s : Entries} {q : Place} (h : i < count) (a : Along i s n q) where
     pub along_fits : r ≡ one_if (answer i).number → n + r ≤ count
@@ -42,7 +31,3 @@ module _ (answer : ℕ → WordAnswer) (w first count total : ℕ) (s₀ : Entri
           wrote = wrote_more answer 0 a.wrote (omega arith) (omega arith) e p;
           counted = omega (arith, v, a.counted, count_next answer i count h);
         }
-
-  module _ {i n : ℕ} {s : Entries} {q : Place} (h : count ≤ i) (a : Along i s n q) where
-    pub along_done : Wrote answer 0 count total s₀ s × (n ≡ count_of (answers_from answer 0 count))
-    along_done = (wrote_less answer 0 h a.wrote, omega (arith, a.counted, count_done answer i count h))

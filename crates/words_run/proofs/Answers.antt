@@ -42,9 +42,6 @@ module _ (answer : ℕ → WordAnswer) where
       ap (λ (k : ℕ). count_of (answers_from answer i k)) {x = n - i} {y = suc (n - (i + 1))} (omega arith)
       ∙ ap (λ (k : ℕ). one_if (answer i).number + count_of (answers_from answer k (n - (i + 1)))) {x = suc i} {y = i + 1} (omega arith)
 
-  pub count_done : (i n : ℕ) → n ≤ i → count_of (answers_from answer i (n - i)) ≡ 0
-  count_done i n h = ap (λ (k : ℕ). count_of (answers_from answer i k)) {x = n - i} {y = 0} (omega arith)
-
 pub answers_same :
     (f g : ℕ → WordAnswer) (i n : ℕ) → ((j : ℕ) → i ≤ j → j < i + n → f j ≡ g j) → answers_from f i n ≡ answers_from g i n
 answers_same f g i zero h = refl

@@ -1,11 +1,10 @@
 -- A pixel's column and row, counted along a run, and its word from them, which is `encode`'s. Assumes nothing.
-use Prim.Native.Nat.{ℕ, ◌+◌, ◌*◌, ◌/◌, ◌%◌, ◌≤◌, ◌<◌}
+use Prim.Native.Nat.{ℕ, ◌/◌, ◌%◌, ◌<◌}
 use mathlib.Core.Path.{◌≡◌, refl, sym, ap, subst, ◌∙◌}
 use mathlib.Core.Bool.{Bool, true, false, cond, not, ◌&&◌, ◌||◌}
-use native.Mathlib.Nat.{suc-mul, mul-one, mul-le-mul_left, mod-lt, mod-eq_of_lt, div-eq_of_lt, div-add-mod', mul-add-mod_self_right, mul-add-div_right}
-use native.Mathlib.Numerals.{add-one}
+use native.Mathlib.Nat.{mod-eq_of_lt, div-eq_of_lt, mul-add-mod_self_right, mul-add-div_right}
 use native.Mathlib.Omega.{arith}
-use borrow.Author.Tests.{eqb-true, eq-eqb, ne_eqb}
+use borrow.Author.Tests.{eqb-true}
 use lib.Dec.{eqb, leb}
 use lib.ListN.{length, get_or}
 use Rattle.frame_pixel.specs.declared.Pixel.{Pixel}
@@ -14,7 +13,6 @@ use Rattle.blender.specs.Blend.{or_zero}
 use Rattle.num_float.proofs.Tests.{never, both_right}
 use Rattle.words_pack.specs.declared.FramebufferEncoding.{FramebufferEncoding}
 use Rattle.std.specs.Prelude.{None}
-use Rattle.state.specs.declared.Rgba8.{Rgba8}
 use Rattle.words_pack.specs.declared.Bytes2.{Bytes2}
 use Rattle.words_pack.specs.Writer.{color_supported, supported_of, pixel_bytes_of, color_of, encode_of}
 use Rattle.words_pack.proofs.Encoded.{encode_by, absent_by, color_by}
@@ -22,27 +20,11 @@ use Rattle.frame.specs.Frame.{Frame, pixel_at}
 use Rattle.frame.specs.Checks.{frame_refusal}
 use Rattle.frame.proofs.Loads.{marked_coverage}
 use Rattle.words_read.specs.Read.{ReadArgs, WordAnswer, writer_by, writer_of, readable, bytes_of, word_by, read_answer}
-use Rattle.words_run.specs.Entries.{byte_of, word_at, answer_at, answer_in, At}
+use Rattle.words_run.specs.Entries.{word_at, answer_at, answer_in, At}
 use Rattle.words_run.specs.declared.entry.Place.{Place}
 use Rattle.words_read.proofs.Reading.{tenth, read}
 
 -- ---- column and row
-pub at_first : (w p : ℕ) → 0 < w → At w p (record { x = p % w; y = p / w })
-at_first w p h = record { place = div-add-mod' p w; inside = mod-lt p h }
-
-pub row_le : (y w : ℕ) → 0 < w → y ≤ y * w
-row_le y w h =
-    let e : y * 1 ≤ y * w = mul-le-mul_left y h in
-    omega (arith, mul-one y)
-
-pub same_row : (w x y : ℕ) → x + 1 < w → At w (y * w + x + 1) (record { x = x + 1; y = y })
-same_row w x y h = record { place = omega arith; inside = h }
-
-pub next_row : (w x y : ℕ) → x < w → w ≤ x + 1 → At w (y * w + x + 1) (record { x = 0; y = y + 1 })
-next_row w x y h l =
-    let e : (y + 1) * w ≡ y * w + w = rw add-one (suc-mul y w) in
-    record { place = omega arith; inside = omega arith }
-
 module _ {w p : ℕ} {q : Place} (a : At w p q) where
   pub column_is : p % w ≡ q.x
   column_is = ap (λ (n : ℕ). n % w) (sym a.place) ∙ mul-add-mod_self_right q.y w q.x ∙ mod-eq_of_lt a.inside
@@ -57,20 +39,6 @@ module _ {w p : ℕ} {q : Place} (a : At w p q) where
       → answer_at siz q.x q.y dither e (pixel_at f p) ≡ answer_in w siz dither e f p
   answer_here siz dither e f = λ i. answer_at siz (sym column_is i) (sym row_is i) dither e (pixel_at f p)
 
--- ---- a byte by the column, and a word by the size
-module _ (x : ℕ) (c : Rgba8) {n : ℕ} where
-  pub byte_even : n ≡ c.r → x % 2 ≡ 0 → ◌≡◌ {A = Bytes2} (n, 0) (byte_of x c)
-  byte_even e h = λ i. (cond (sym (eq-eqb (x % 2) 0 h) i) (e i) c.g, 0)
-
-  pub byte_odd : n ≡ c.g → (x % 2 ≡ 0 → ⊥) → ◌≡◌ {A = Bytes2} (n, 0) (byte_of x c)
-  byte_odd e h = λ i. (cond (sym (ne_eqb (x % 2) 0 h) i) c.r (e i), 0)
-
-pub by_true : {b : Bool} {r x : Bytes2} (y : Bytes2) → b ≡ true → r ≡ x → r ≡ cond b x y
-by_true {b} {r} {x} y h e = e ∙ (λ i. cond (sym h i) x y)
-
-pub by_false : {b : Bool} {r y : Bytes2} (x : Bytes2) → b ≡ false → r ≡ y → r ≡ cond b x y
-by_false {b} {r} {y} x h e = e ∙ (λ i. cond (sym h i) x y)
-
 -- ---- what number 10 leaves for 16 bits: a known coverage
 marked_for_two : (mark : ℕ) → readable mark 2 ≡ true → coverage_marked mark ≡ true
 marked_for_two mark h = go (coverage_marked mark) (both_right (color_marked mark) (coverage_marked mark || not (eqb 2 2)) h)
@@ -78,9 +46,6 @@ marked_for_two mark h = go (coverage_marked mark) (both_right (color_marked mark
     go : (b : Bool) → (b || false) ≡ true → b ≡ true
     go true p = refl
     go false p = p
-
-pub marked_by_size : (mark : ℕ) {siz : ℕ} → readable mark siz ≡ true → siz ≡ 2 → coverage_marked mark ≡ true
-marked_by_size mark r e = marked_for_two mark (subst (λ (s : ℕ). readable mark s ≡ true) e r)
 
 -- ---- the word is `encode`'s
 module _ (w fmt p dither : ℕ) (e : FramebufferEncoding) (c : Pixel) where

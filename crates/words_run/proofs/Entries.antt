@@ -5,7 +5,7 @@ use mathlib.Core.Bool.{true, false, cond}
 use mathlib.Core.Logic.{◌≢◌}
 use native.Mathlib.Decide.{ℕ_discrete, dec_lt}
 use native.Mathlib.Omega.{arith}
-use lib.ListN.{length, get_or, set, length-set}
+use lib.ListN.{get_or, set, length-set}
 use lib.Seq.{get_or-set_same, get_or-set_other}
 use Rattle.frame_pixel.specs.declared.Pixel.{Pixel}
 use Rattle.words_pack.specs.declared.Bytes2.{Bytes2}
@@ -46,9 +46,6 @@ module _ {n : ℕ} {s : Entries} (m : Matched n s) (i : ℕ) (x : WordAnswer) wh
 
 -- ---- a part of the entries
 module _ (answer : ℕ → WordAnswer) (lo : ℕ) {n : ℕ} {s : Entries} where
-  pub wrote_none : Matched n s → Wrote answer lo lo n s s
-  wrote_none m = record { matched = m; written = λ i a b. absurd (omega arith); kept = λ i a. λ j. entry_at s i }
-
   pub wrote_more :
       {i : ℕ} {t u : Entries} {x : WordAnswer} → Wrote answer lo i n s t → lo ≤ i → i < n → x ≡ answer i → u ≡ put_entry t i x
       → Wrote answer lo (i + 1) n s u
@@ -63,10 +60,6 @@ module _ (answer : ℕ → WordAnswer) (lo : ℕ) {n : ℕ} {s : Entries} where
       go : (j : ℕ) → lo ≤ j → j < i + 1 → Dec (j ≡ i) → entry_at (put_entry t i x) j ≡ answer j
       go j b c (yes q) = subst (λ (k : ℕ). entry_at (put_entry t i x) k ≡ answer k) (sym q) (put_here w.matched i x h ∙ e)
       go j b c (no q) = put_other w.matched i x j q ∙ w.written j b (omega arith)
-
-  -- fewer entries
-  pub wrote_less : {i hi : ℕ} {t : Entries} → hi ≤ i → Wrote answer lo i n s t → Wrote answer lo hi n s t
-  wrote_less h w = record { matched = w.matched; written = λ j a b. w.written j a (omega arith); kept = w.kept }
 
 -- other words for the answers
 pub wrote_as :
@@ -83,17 +76,6 @@ wrote_both {answer} {lo} {mid} {hi} {n} {m} {s} {t} {u} l a b =
     go : (i : ℕ) → lo ≤ i → i < hi → Dec (i < mid) → entry_at u i ≡ answer i
     go i p q (yes r) = b.kept i r ∙ a.written i p r
     go i p q (no r) = b.written i (omega arith) q
-
--- ---- room
-pub room : {n : ℕ} {s : Entries} → Matched n s → Matched (length s.numbers) s
-room {n} {s} m = subst (λ (k : ℕ). Matched k s) (sym m.numbers) m
-
-module _ {n : ℕ} {s t : Entries} (a : Matched n s) (b : Matched n t) where
-  pub same_words : length t.words ≡ length s.words
-  same_words = b.words ∙ sym a.words
-
-  pub same_numbers : length t.numbers ≡ length s.numbers
-  same_numbers = b.numbers ∙ sym a.numbers
 
 -- ---- the entry of a pixel that numbers 1 to 9 let through, by number 10
 module _ (siz x y dither : ℕ) (e : FramebufferEncoding) (c : Pixel) (s : Entries) (i : ℕ) {t : Entries} where

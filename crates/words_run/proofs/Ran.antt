@@ -21,9 +21,6 @@ use Rattle.words_run.proofs.Entries.{wrote_as, wrote_both}
 use Rattle.words_run.proofs.Answers.{count_none, count_both, answers_same, run_is}
 use Rattle.words_run.proofs.Columns.{answer_is}
 
-pub matched_by : (ws ns : List ℕ) → length ws ≡ 2 * length ns → Matched (length ns) (entries_of ws ns)
-matched_by ws ns h = record { words = h; numbers = refl }
-
 module _ (a : ReadArgs) (w h : ℕ) (f : Frame) where
   -- entries that are all turned away with one number are no words
   part_refused :
