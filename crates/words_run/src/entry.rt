@@ -27,6 +27,25 @@ pub struct Place {
     pub y: usize,
 }
 
+impl Place {
+    // The place of the next pixel.
+    fn next(self, width: usize) -> Place
+        requires column { self.x < width }
+        requires pixel { self.y * width + self.x ≤ 1048576 }
+        ensures { At width (self.y * width + self.x + 1) result }
+    {
+        let x = self.x + 1;
+        if x < width {
+            Place { x, y: self.y }
+        } else {
+            Place {
+                x: 0,
+                y: self.y + 1,
+            }
+        }
+    }
+}
+
 fn put_entry(words: &mut [u8], numbers: &mut [u8], i: usize, number: u8, word: Bytes2)
     requires below { i < length numbers.old }
     requires matched { Matched (length numbers.old) (entries_of words.old numbers.old) }
@@ -132,23 +151,6 @@ fn read_entry(
     1
 }
 
-// The place of the next pixel.
-fn next_place(place: Place, width: usize) -> Place
-    requires column { place.x < width }
-    requires pixel { place.y * width + place.x ≤ 1048576 }
-    ensures { At width (place.y * width + place.x + 1) result }
-{
-    let x = place.x + 1;
-    if x < width {
-        Place { x, y: place.y }
-    } else {
-        Place {
-            x: 0,
-            y: place.y + 1,
-        }
-    }
-}
-
 // The first `count` entries, whose pixels are there.
 pub fn read_entries(
     width: usize,
@@ -174,11 +176,10 @@ pub fn read_entries(
     };
     for i in 0..count {
         let pixel = first + i;
-        let read = read_entry(
+        n += read_entry(
             colors, coverages, marks, pixel, place, format, words, numbers, i,
         );
-        n += read;
-        place = next_place(place, width);
+        place = place.next(width);
     }
     n
 }

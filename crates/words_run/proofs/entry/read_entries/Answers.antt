@@ -12,7 +12,7 @@ overflow_add-n c =
     let a = c.args in
     let l = c.loop-i in
     let e = answer_here l.invariant.place a.format.siz a.format.rgb_dither a.format.encoding (frame_of a.colors.now a.coverages.now a.marks.now) in
-    let h = along_fits _ _ _ _ _ _ c.loop-i-test.true l.invariant (c.read_entry-read.ensures.count ∙ ap (λ (x : WordAnswer). one_if x.number) e) in
+    let h = along_fits _ _ _ _ _ _ c.loop-i-test.true l.invariant (c.read_entry-n.ensures.count ∙ ap (λ (x : WordAnswer). one_if x.number) e) in
     record { fits = omega (arith, h, c.requires.there.3, c.requires.there.1 (omega arith), c.requires.there.2) }
 
 pub loop-i-preserved : goal.loop-i-preserved
@@ -20,4 +20,4 @@ loop-i-preserved c =
     let a = c.args in
     let l = c.loop-i in
     let e = answer_here l.invariant.place a.format.siz a.format.rgb_dither a.format.encoding (frame_of a.colors.now a.coverages.now a.marks.now) in
-    along_more _ _ _ _ _ _ c.loop-i-test.true l.invariant c.requires.there.3 e c.read_entry-read.ensures.entry c.read_entry-read.ensures.count c.next_place-place.ensures
+    along_more _ _ _ _ _ _ c.loop-i-test.true l.invariant c.requires.there.3 e c.read_entry-n.ensures.entry c.read_entry-n.ensures.count c.next-place.ensures
