@@ -4,6 +4,9 @@
 // A draw's state.
 pub use state::{AlphaCompare, BlendClass, CombinerUniform, RenderMode, Rgba, Rgba8, ZMode};
 
+// Why a call is turned away.
+pub use refused::Refusal;
+
 // Selectors.
 pub use combiner_inputs::{
     AlphaIn, ColorIn, CombinerSelectors, CycleSel, alpha_abd, alpha_c, color_a, color_b, color_c,
@@ -11,22 +14,22 @@ pub use combiner_inputs::{
 };
 
 // The combiner, with its methods new, color and strict_color.
-pub use combiner::{Color, Combiner, Made, Strict};
+pub use combiner::Combiner;
 
 // The single-pixel calls.
 pub use blender::Coverage;
-pub use words_pack::{FramebufferEncoding, ImageLayout, Literal, Writer, pack_depth};
+pub use words_pack::{Bytes2, FramebufferEncoding, ImageLayout, Writer, pack_depth};
 pub use writeback_pixel::{
-    Answer, Blended, Encoded, Packed, PixelBytes, Stored, blend, color_known, destination, encode,
-    pack_color, pixel_bytes, supported,
+    blend, color_known, destination, encode, pack_color, pixel_bytes, supported,
 };
 
 // Vertices, with the method in_range, and which draws are admitted.
 pub use raster_pixel::{Geometry, Scissor, admitted};
+pub use raster_rectangle::Sides;
 pub use raster_vertex::Vertex;
 
 // The frame.
-pub use frame_draw::{Drawn, Engine, draw};
+pub use frame_draw::{Engine, draw};
 pub use frame_emitted::{Emitted, Listed, emitted_pixel, emitted_pixels};
-pub use words_read::{Word, read_word};
-pub use words_run::{Run, read_words};
+pub use words_read::read_word;
+pub use words_run::read_words;
