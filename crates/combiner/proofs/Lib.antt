@@ -1,4 +1,3 @@
--- What several proofs of `combiner` share, and the laws for the crates above it.
-pub mod Tags
+-- The laws of `combiner` for the crates above it, and what its answers mean.
 pub mod Known
 pub mod Means
