@@ -7,23 +7,17 @@ use lib.Dec.{eqb}
 use lib.IntN.{ℤ, pos, nat_abs}
 use Rattle.state.specs.declared.RenderMode.{RenderMode}
 use Rattle.combiner.specs.declared.Combiner.{Combiner}
-use Rattle.raster_range.specs.declared.Range.{Range}
-use Rattle.raster_range.specs.Kept.{Kept}
 use Rattle.raster_vertex.specs.declared.Vertex.{Vertex}
 use Rattle.raster_vertex.specs.Sorted.{sorted}
 use Rattle.raster_vertex.specs.Shade.{culled_of}
 use Rattle.raster_edges.specs.declared.Corner.{Corner}
 use Rattle.raster_edges.specs.declared.Tri.{Tri}
-use Rattle.raster_edges.specs.Bound.{no_row}
 use Rattle.raster_edges.specs.Edge.{area_of}
 use Rattle.raster_edges.specs.Span.{tri_of, edges_of}
-use Rattle.raster_pixel.specs.declared.Area.{Area}
 use Rattle.raster_pixel.specs.declared.Scissor.{Scissor}
-use Rattle.raster_pixel.specs.declared.Three.{Three}
-use Rattle.raster_pixel.specs.declared.Three.TheVariants.{Vertices, Absent}
-use Rattle.raster_pixel.specs.Area as area
+use Rattle.std.specs.Prelude.{Option, Some, None}
+use Rattle.raster_vertex.specs.declared.Triangle.{Triangle}
 use Rattle.raster_pixel.specs.Emitted.{Emit, emits, inside, corner_of, triangle_fragment, triangle_emits, three_emits}
-use Rattle.raster_pixel.specs.Parts.{from}
 use Rattle.raster_pixel.proofs.Near.{nonzero, corners_are}
 use Rattle.frame.specs.Frame.{Frame}
 use Rattle.frame.specs.Fits.{Fit}
@@ -31,8 +25,7 @@ use Rattle.frame_paint.specs.declared.prepare.Paint.{Paint}
 use Rattle.frame_paint.specs.Pixel.{Drew}
 use Rattle.frame_paint.specs.Paint.{Ready}
 use Rattle.frame_paint.proofs.Drawing.{drew_as}
-use Rattle.rasterize.specs.declared.rows.Shading.{Shading}
-use Rattle.rasterize.specs.Shape.{shading_of, shape_row}
+use Rattle.rasterize.specs.Shape.{Shading, shading_of, shape_emits}
 use Rattle.rasterize.proofs.Kept.{drew_nothing}
 use Rattle.rasterize.proofs.Shapes.{triangle_pixel, shape_drawn}
 
@@ -55,13 +48,12 @@ module _
     (paint : Paint) (p : Ready paint) (cull : Bool) (s : Scissor) {w h : ℕ} (wide : w ≤ 1024) (high : h ≤ 1024) (a b c : Vertex)
     {v : List Vertex} (ev : v ≡ sorted (a ∷ b ∷ c ∷ [])) {q : List Corner} (eq : q ≡ map corner_of v) {z : ℤ} (ez : z ≡ area_of q) where
   pub triangle_drawn :
-      {shading : Shading} {t : Tri} {ar : Area} {rows : Range} {m n : ℕ} {f g : Frame}
-      → culled_of cull a b c ≡ false → (z ≡ pos 0 → ⊥) → t ≡ tri_of q → ar ≡ area.area_of s w h
-      → Kept (no_row t) ar.top ar.bottom rows → shading ≡ shading_of paint.flat v
-      → Drew paint.mode paint.combiner m (from (shape_row paint shading t w ar.left ar.right) rows.start rows.end) f g n
+      {shading : Shading} {t : Tri} {m n : ℕ} {f g : Frame}
+      → culled_of cull a b c ≡ false → (z ≡ pos 0 → ⊥) → t ≡ tri_of q → shading ≡ shading_of paint.flat v
+      → Drew paint.mode paint.combiner m (shape_emits paint shading t s w h) f g n
       → Drew paint.mode paint.combiner m (triangle_emits paint.mode paint.combiner cull s w h a b c) f g n
   unfolding triangle_emits
-  triangle_drawn {t = t} {ar} {rows} e n et ea kept es d =
+  triangle_drawn {t = t} e n et es d =
       let o = sorted (a ∷ b ∷ c ∷ []) in
       let u : t ≡ tri_of (map corner_of o) = et ∙ ap tri_of (corners_are a b c ev eq) in
       let pixel : List Vertex → Tri → ℕ → ℕ → List Emit = λ v t y x. emits (triangle_fragment paint.mode.antialias paint.combiner v (edges_of t y) y x) (y * w + x) in
@@ -70,18 +62,18 @@ module _
       ∙ (λ i.
       cond (sym e i || (sym (nonzero z n) ∙ ap (λ (x : ℤ). eqb (nat_abs x) 0) (ez ∙ ap area_of (corners_are a b c ev eq))) i) []
       (inside s w h (pixel o (tri_of (map corner_of o))))))
-      (shape_drawn paint (shading_of paint.flat v) t s wide high (pixel v t) (λ y x hy hx. triangle_pixel paint v t w y x p) ea kept
-      (drew_as (λ i. from (shape_row paint (es i) t w ar.left ar.right) rows.start rows.end) d))
+      (shape_drawn paint (shading_of paint.flat v) t s w h wide high (pixel v t) (λ y x hy hx. triangle_pixel paint v t w y x p)
+      (drew_as (λ i. shape_emits paint (es i) t s w h) d))
 
 -- ---- triangle i of a list
-module _ (mode : RenderMode) (k : Combiner) (cull : Bool) (s : Scissor) (w h : ℕ) {m : ℕ} {f : Frame} {r t : Three} (e : r ≡ t) where
-  three_as : {q : Three} {g : Frame} {n : ℕ} → r ≡ q → Drew mode k m (three_emits mode k cull s w h q) f g n → Drew mode k m (three_emits mode k cull s w h t) f g n
+module _ (mode : RenderMode) (k : Combiner) (cull : Bool) (s : Scissor) (w h : ℕ) {m : ℕ} {f : Frame} {r t : Option Triangle} (e : r ≡ t) where
+  three_as : {q : Option Triangle} {g : Frame} {n : ℕ} → r ≡ q → Drew mode k m (three_emits mode k cull s w h q) f g n → Drew mode k m (three_emits mode k cull s w h t) f g n
   three_as p = drew_as (ap (three_emits mode k cull s w h) (sym p ∙ e))
 
-  pub three_absent : r ≡ Absent → Fit m f → Drew mode k m (three_emits mode k cull s w h t) f f 0
+  pub three_absent : r ≡ None → Fit m f → Drew mode k m (three_emits mode k cull s w h t) f f 0
   three_absent p h = three_as p (drew_nothing refl h)
 
   pub three_drawn :
-      {a b c : Vertex} {g : Frame} {n : ℕ} → r ≡ Vertices a b c
-      → Drew mode k m (triangle_emits mode k cull s w h a b c) f g n → Drew mode k m (three_emits mode k cull s w h t) f g n
+      {q : Triangle} {g : Frame} {n : ℕ} → r ≡ Some q
+      → Drew mode k m (triangle_emits mode k cull s w h q.a q.b q.c) f g n → Drew mode k m (three_emits mode k cull s w h t) f g n
   three_drawn p = three_as p

@@ -2,6 +2,7 @@
 -- emit. Assumes nothing.
 use mathlib.Core.Path.{◌≡◌, refl, sym, subst, ◌∙◌}
 use mathlib.Core.Bool.{Bool}
+use Rattle.std.specs.Prelude.{is_none}
 use mathlib.Core.List.{List, []}
 use Prim.Native.Nat.{ℕ, ◌+◌, ◌-◌, ◌*◌, ◌≤◌, ◌<◌}
 use native.Mathlib.Nat.{add-zero}
@@ -28,8 +29,7 @@ use Rattle.frame_paint.specs.Pixel.{Drew}
 use Rattle.frame_paint.specs.Row.{pixel_of, row_at}
 use Rattle.frame_paint.proofs.Drawing.{Drawing, drawing_more, drawing_count, drew_as}
 use Rattle.frame_paint.proofs.Joins.{row_most}
-use Rattle.rasterize.specs.declared.rows.Shading.{Shading}
-use Rattle.rasterize.specs.Shape.{is_flat, shades_on, shape_pixel, shape_row}
+use Rattle.rasterize.specs.Shape.{Shading, shades_on, shape_pixel, shape_row}
 
 -- ---- a pixel
 unseen : (antialias : Bool) (mask : ℕ) (hue : Hue) (w y x : ℕ) → mask ≡ 0 → pixel_of antialias mask hue w y x ≡ []
@@ -39,16 +39,16 @@ unseen antialias mask hue w y x e = λ i. pixel_of antialias (e i) hue w y x
 -- ---- a row
 module _ (paint : Paint) (shading : Shading) (t : Tri) (w l r y : ℕ) {e : Edges} {k : Range} (ee : e ≡ edges_of t y) (kept : Kept (no_sample e) l r k) where
   row_kept :
-      {flat : Bool} {row : ShadeRow} → flat ≡ is_flat shading → row ≡ shades_on shading y
+      {flat : Bool} {row : ShadeRow} → flat ≡ is_none shading → row ≡ shades_on shading y
       → from (row_at paint flat row e w y) k.start k.end ≡ shape_row paint shading t w l r y
   row_kept {flat} {row} ef er =
       sym (kept_all (row_at paint flat row e w y) (no_sample e) (λ x. unseen _ _ _ w y x) kept) ∙ (λ i. from (row_at paint (ef i) (er i) (ee i) w y) l r)
 
   pub row_none : k.end ≤ k.start → shape_row paint shading t w l r y ≡ []
-  row_none h = sym (row_kept refl refl) ∙ from_none (row_at paint (is_flat shading) (shades_on shading y) e w y) k.start k.end h
+  row_none h = sym (row_kept refl refl) ∙ from_none (row_at paint (is_none shading) (shades_on shading y) e w y) k.start k.end h
 
   pub row_drawn :
-      {flat : Bool} {row : ShadeRow} {m n : ℕ} {f g : Frame} → flat ≡ is_flat shading → row ≡ shades_on shading y
+      {flat : Bool} {row : ShadeRow} {m n : ℕ} {f g : Frame} → flat ≡ is_none shading → row ≡ shades_on shading y
       → Drew paint.mode paint.combiner m (from (row_at paint flat row e w y) k.start k.end) f g n
       → Drew paint.mode paint.combiner m (shape_row paint shading t w l r y) f g n
   row_drawn ef er = drew_as (row_kept ef er)
@@ -65,7 +65,7 @@ module _ (paint : Paint) (shading : Shading) (t : Tri) (w l r : ℕ) where
   pub rows_most : r ≤ 1024 → (a b : ℕ) → length (from (shape_row paint shading t w l r) a b) ≤ (b - a) * 1024
   rows_most h a b =
       parts_bound (shape_row paint shading t w l r) 1024
-      (λ y. omega (arith, row_most paint (is_flat shading) (shades_on shading y) (edges_of t y) w y l r)) (b - a) a
+      (λ y. omega (arith, row_most paint (is_none shading) (shades_on shading y) (edges_of t y) w y l r)) (b - a) a
 
 -- ---- what emits nothing
 pub drew_nothing : {mode : RenderMode} {k : Combiner} {m : ℕ} {f : Frame} {es : List Emit} → es ≡ [] → Fit m f → Drew mode k m es f f 0

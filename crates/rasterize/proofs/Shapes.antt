@@ -3,11 +3,12 @@
 use mathlib.Core.Path.{◌≡◌, refl, sym, ap, subst, ◌∙◌}
 use mathlib.Core.Bool.{Bool, true, false, cond}
 use mathlib.Core.List.{List}
+use Rattle.std.specs.Prelude.{Option, None}
 use Prim.Native.Nat.{ℕ, ◌+◌, ◌*◌, ◌≤◌, ◌<◌}
 use native.Mathlib.Omega.{arith}
 use Rattle.num_float.specs.Color.{f1}
 use Rattle.combiner.specs.Combine.{color_of, full_shade}
-use Rattle.combiner.specs.declared.Color.{Color}
+use Rattle.state.specs.declared.Rgba.{Rgba}
 use Rattle.combiner_resolved.specs.Resolved.{color_value, mixed_by}
 use Rattle.raster_range.specs.declared.Range.{Range}
 use Rattle.raster_range.specs.Kept.{Kept}
@@ -24,12 +25,11 @@ use Rattle.raster_vertex.proofs.Rows.{row_shade}
 use Rattle.raster_rectangle.specs.declared.Sides.{Sides}
 use Rattle.raster_rectangle.specs.Outline.{Outlines}
 use Rattle.raster_pixel.specs.declared.Area.{Area}
-use Rattle.raster_pixel.specs.declared.Fragment.TheVariants.{Empty}
 use Rattle.raster_pixel.specs.declared.Scissor.{Scissor}
 use Rattle.raster_pixel.specs.Area.{area_of}
 use Rattle.raster_pixel.specs.Emitted.{Emit, shown, covered, emits, inside, triangle_fragment, rectangle_fragment, rectangle_emits}
 use Rattle.raster_pixel.specs.Parts.{from}
-use Rattle.raster_pixel.proofs.Inside.{bounded, inside_area}
+use Rattle.raster_pixel.proofs.Inside.{inside_area}
 use Rattle.frame.specs.Frame.{Frame}
 use Rattle.frame_paint.specs.declared.prepare.Paint.{Paint}
 use Rattle.frame_paint.specs.Steps.{step_frame}
@@ -38,9 +38,7 @@ use Rattle.frame_paint.specs.Paint.{Prepared, Ready}
 use Rattle.frame_paint.specs.Row.{hue_of, pixel_of, row_at}
 use Rattle.frame_paint.proofs.Drawing.{drew_as}
 use Rattle.frame_paint.proofs.Paints.{any_shade}
-use Rattle.rasterize.specs.declared.rows.Shading.{Shading}
-use Rattle.rasterize.specs.declared.rows.Shading.TheVariants.{Flat}
-use Rattle.rasterize.specs.Shape.{shading_of, shape_pixel, shape_row}
+use Rattle.rasterize.specs.Shape.{Shading, shading_of, shape_pixel, shape_row, shape_emits}
 use Rattle.rasterize.proofs.Same.{Same, same_as, same_parts, drew_same}
 use Rattle.rasterize.proofs.Kept.{rows_kept}
 
@@ -53,7 +51,7 @@ module _ (paint : Paint) (v : List Vertex) (e : Edges) (w y x : ℕ) where
   smooth_pixel p =
       let s = shade_on (row_of v y) x in
       let color = (λ i. color_value (mixed_by (p.prepared.resolved i) s)) ∙ sym (p.mixes s) ∙ ap (color_of paint.combiner) (row_shade v x y) in
-      λ i. emits (cond (shown paint.mode.antialias (mask_of e x)) (covered (mask_of e x) (color i) (row_shade v x y i).a) Empty) (y * w + x)
+      λ i. emits (cond (shown paint.mode.antialias (mask_of e x)) (covered (mask_of e x) (color i) (row_shade v x y i).a) None) (y * w + x)
 
   -- of a flat paint
   flat_pixel :
@@ -62,13 +60,13 @@ module _ (paint : Paint) (v : List Vertex) (e : Edges) (w y x : ℕ) where
   unfolding pixel_of hue_of triangle_fragment
   flat_pixel p h row =
       let s = shade_of v x y in
-      subst (λ (c : Color). Same (step_frame paint.mode paint.combiner) (row_at paint true row e w y x) (emits (cond (shown paint.mode.antialias (mask_of e x)) (covered (mask_of e x) c s.a) Empty) (y * w + x)))
+      subst (λ (c : Option Rgba). Same (step_frame paint.mode paint.combiner) (row_at paint true row e w y x) (emits (cond (shown paint.mode.antialias (mask_of e x)) (covered (mask_of e x) c s.a) None) (y * w + x)))
       (sym ((p.flat h).1 s)) (go (shown paint.mode.antialias (mask_of e x)))
     where
       go :
           (b : Bool)
-          → Same (step_frame paint.mode paint.combiner) (emits (cond b (covered (mask_of e x) (color_value paint.color) f1) Empty) (y * w + x))
-          (emits (cond b (covered (mask_of e x) (color_value paint.color) (shade_of v x y).a) Empty) (y * w + x))
+          → Same (step_frame paint.mode paint.combiner) (emits (cond b (covered (mask_of e x) (color_value paint.color) f1) None) (y * w + x))
+          (emits (cond b (covered (mask_of e x) (color_value paint.color) (shade_of v x y).a) None) (y * w + x))
       go true = record { state = λ f. any_shade paint p (p.flat h).0 f (y * w + x) (mask_of e x) f1 (shade_of v x y).a; count = refl }
       go false = same_as refl
 
@@ -89,35 +87,41 @@ triangle_pixel paint v t w y x p = go paint.flat refl
 -- ---- a rectangle's pixel
 rectangle_pixel :
     (paint : Paint) (sides : Sides) (t : Tri) (w y x : ℕ) → Prepared paint → Outlines sides t → y < 1024 → x < 1024
-    → shape_pixel paint Flat t w y x ≡ emits (rectangle_fragment paint.mode.antialias (color_of paint.combiner full_shade) sides y x) (y * w + x)
+    → shape_pixel paint None t w y x ≡ emits (rectangle_fragment paint.mode.antialias (color_of paint.combiner full_shade) sides y x) (y * w + x)
 unfolding pixel_of hue_of rectangle_fragment
 rectangle_pixel paint sides t w y x p o hy hx =
     let m = o.same x y hx hy in
-    λ i. emits (cond (shown paint.mode.antialias (m i)) (covered (m i) (sym p.color i) f1) Empty) (y * w + x)
+    λ i. emits (cond (shown paint.mode.antialias (m i)) (covered (m i) (sym p.color i) f1) None) (y * w + x)
 
--- ---- all its pixels, where the rows that are left out have no sample
-module _ (paint : Paint) (shading : Shading) (t : Tri) (s : Scissor) {w h : ℕ} (wide : w ≤ 1024) (high : h ≤ 1024) where
-  pub shape_drawn :
-      {ar : Area} {rows : Range} {m n : ℕ} {f g : Frame} (pixel : ℕ → ℕ → List Emit)
-      → ((y x : ℕ) → y < 1024 → x < 1024 → Same (step_frame paint.mode paint.combiner) (shape_pixel paint shading t w y x) (pixel y x))
-      → ar ≡ area_of s w h → Kept (no_row t) ar.top ar.bottom rows
+-- ---- all its pixels: the rows that are left out have no sample
+module _ (paint : Paint) (shading : Shading) (t : Tri) (s : Scissor) (w h : ℕ) where
+  pub rows_drawn :
+      {ar : Area} {rows : Range} {m n : ℕ} {f g : Frame} → ar ≡ area_of s w h → Kept (no_row t) ar.top ar.bottom rows
       → Drew paint.mode paint.combiner m (from (shape_row paint shading t w ar.left ar.right) rows.start rows.end) f g n
+      → Drew paint.mode paint.combiner m (shape_emits paint shading t s w h) f g n
+  rows_drawn {ar} ea kept d =
+      drew_as
+      (sym (rows_kept paint shading t w ar.left ar.right kept)
+      ∙ (λ i. from (shape_row paint shading t w (ea i).left (ea i).right) (ea i).top (ea i).bottom)
+      ∙ sym (inside_area s w h (shape_pixel paint shading t w)))
+      d
+
+  -- and other pixels that do the same
+  pub shape_drawn :
+      {m n : ℕ} {f g : Frame} → w ≤ 1024 → h ≤ 1024 → (pixel : ℕ → ℕ → List Emit)
+      → ((y x : ℕ) → y < 1024 → x < 1024 → Same (step_frame paint.mode paint.combiner) (shape_pixel paint shading t w y x) (pixel y x))
+      → Drew paint.mode paint.combiner m (shape_emits paint shading t s w h) f g n
       → Drew paint.mode paint.combiner m (inside s w h pixel) f g n
-  shape_drawn {ar} pixel same ea kept d =
-      let b = bounded s w h ea in
-      drew_as ((λ i. from (λ (y : ℕ). from (pixel y) (ea i).left (ea i).right) (ea i).top (ea i).bottom) ∙ sym (inside_area s w h pixel))
-      (drew_same
-      (same_parts ar.top ar.bottom
-      (λ y p q. same_parts ar.left ar.right (λ x j l. same y x (omega (arith, b.bottom_in)) (omega (arith, b.right_in)))))
-      (drew_as (sym (rows_kept paint shading t w ar.left ar.right kept)) d))
+  shape_drawn wide high pixel same d =
+      drew_same
+      (same_parts _ _ (λ y p q. same_parts _ _ (λ x j l. same y x (omega arith) (omega arith)))) d
 
 -- ---- a rectangle
-module _ (paint : Paint) (p : Prepared paint) (s : Scissor) {w h : ℕ} (wide : w ≤ 1024) (high : h ≤ 1024) (sides : Sides) where
-  pub rectangle_drawn :
-      {t : Tri} {ar : Area} {rows : Range} {m n : ℕ} {f g : Frame} → Outlines sides t → ar ≡ area_of s w h → Kept (no_row t) ar.top ar.bottom rows
-      → Drew paint.mode paint.combiner m (from (shape_row paint Flat t w ar.left ar.right) rows.start rows.end) f g n
-      → Drew paint.mode paint.combiner m (rectangle_emits paint.mode paint.combiner s w h sides) f g n
-  unfolding rectangle_emits
-  rectangle_drawn {t} o =
-      shape_drawn paint Flat t s wide high (λ (y x : ℕ). emits (rectangle_fragment paint.mode.antialias (color_of paint.combiner full_shade) sides y x) (y * w + x))
-      (λ y x hy hx. same_as (rectangle_pixel paint sides t w y x p o hy hx))
+pub rectangle_drawn :
+    (paint : Paint) → Prepared paint → (s : Scissor) {w h : ℕ} → w ≤ 1024 → h ≤ 1024 → (sides : Sides) {t : Tri} {m n : ℕ} {f g : Frame} → Outlines sides t
+    → Drew paint.mode paint.combiner m (shape_emits paint None t s w h) f g n
+    → Drew paint.mode paint.combiner m (rectangle_emits paint.mode paint.combiner s w h sides) f g n
+unfolding rectangle_emits
+rectangle_drawn paint p s {w} {h} wide high sides {t} o =
+    shape_drawn paint None t s w h wide high (λ (y x : ℕ). emits (rectangle_fragment paint.mode.antialias (color_of paint.combiner full_shade) sides y x) (y * w + x))
+    (λ y x hy hx. same_as (rectangle_pixel paint sides t w y x p o hy hx))

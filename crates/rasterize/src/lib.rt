@@ -10,7 +10,7 @@ ghost use Rattle.frame.specs.Lent.{lent};
 ghost use Rattle.frame_paint.specs.Pixel.{DrewOn, Room};
 ghost use Rattle.frame_paint.specs.Paint.{Prepared, Mixed};
 
-use crate::rows::{Shading, draw_rows};
+use crate::rows::draw_shape;
 use crate::triangles::draw_triangles;
 use combiner::Combiner;
 use frame_paint::prepare::Paint;
@@ -36,25 +36,17 @@ fn draw_rectangle(
     requires room { Room width height (lent colors coverages marks) }
     ensures drew { DrewOn paint.mode paint.combiner (rectangle_emits paint.mode paint.combiner scissor width height sides) colors coverages marks result }
 {
-    let t = sides.outline();
-    let area = raster_pixel::scissor_area(scissor, width, height);
-    let rows = raster_edges::rows(t, area.top, area.bottom);
-    if rows.start < rows.end {
-        return draw_rows(
-            colors,
-            coverages,
-            marks,
-            paint,
-            Shading::Flat,
-            t,
-            width,
-            area.left,
-            area.right,
-            rows.start,
-            rows.end,
-        );
-    }
-    0
+    draw_shape(
+        colors,
+        coverages,
+        marks,
+        paint,
+        None,
+        sides.outline(),
+        scissor,
+        width,
+        height,
+    )
 }
 
 // The pixels of an accepted draw, and their count.
@@ -82,17 +74,9 @@ pub fn rasterize(
     let paint = frame_paint::prepare::prepare(mode, combiner);
     match geometry {
         Geometry::Nothing => 0,
-        Geometry::Rectangle(left, top, right, bottom) => {
-            let sides = Sides {
-                left,
-                top,
-                right,
-                bottom,
-            };
-            draw_rectangle(
-                colors, coverages, marks, paint, scissor, width, height, sides,
-            )
-        }
+        Geometry::Rectangle(sides) => draw_rectangle(
+            colors, coverages, marks, paint, scissor, width, height, sides,
+        ),
         Geometry::Triangles => draw_triangles(
             colors, coverages, marks, paint, cull, scissor, width, height, vertices, present,
             indices,

@@ -10,12 +10,12 @@ ghost use Rattle.frame_paint.specs.Pixel.{DrewOn, Room};
 ghost use Rattle.frame_paint.specs.Paint.{Ready};
 ghost use Rattle.rasterize.specs.Triangles.{triangles_of};
 
-use crate::rows::{draw_rows, shading_of};
+use crate::rows::draw_shape;
 use frame_paint::prepare::Paint;
-use raster_pixel::{Scissor, Three};
-use raster_vertex::Vertex;
+use raster_pixel::Scissor;
+use raster_vertex::Triangle;
 
-// Nothing of a triangle that is culled or whose area in quarter units is 0. Where it has no rows none are called for: a call would copy the paint.
+// Nothing of a triangle that is culled or whose area in quarter units is 0.
 fn draw_triangle(
     colors: &mut [u8],
     coverages: &mut [u8],
@@ -25,34 +25,33 @@ fn draw_triangle(
     scissor: Scissor,
     width: u32,
     height: u32,
-    a: Vertex,
-    b: Vertex,
-    c: Vertex,
+    triangle: Triangle,
 ) -> u64
-    requires shape { Ready paint × CornersNear a b c }
+    requires shape { Ready paint × CornersNear triangle.a triangle.b triangle.c }
     requires sized { Sized scissor width height }
     requires room { Room width height (lent colors coverages marks) }
-    ensures drew { DrewOn paint.mode paint.combiner (triangle_emits paint.mode paint.combiner cull scissor width height a b c) colors coverages marks result }
+    ensures drew { DrewOn paint.mode paint.combiner (triangle_emits paint.mode paint.combiner cull scissor width height triangle.a triangle.b triangle.c) colors coverages marks result }
 {
-    if raster_vertex::culled(cull, a, b, c) {
+    if triangle.culled(cull) {
         return 0;
     }
-    let v = raster_vertex::sort([a, b, c]);
+    let v = raster_vertex::sort([triangle.a, triangle.b, triangle.c]);
     let corners = raster_pixel::corners(v);
     if raster_edges::quarter_area(corners) == 0 {
         return 0;
     }
-    let t = raster_edges::setup(corners);
-    let area = raster_pixel::scissor_area(scissor, width, height);
-    let rows = raster_edges::rows(t, area.top, area.bottom);
-    if rows.start < rows.end {
-        let shading = shading_of(paint.flat, v);
-        return draw_rows(
-            colors, coverages, marks, paint, shading, t, width, area.left, area.right, rows.start,
-            rows.end,
-        );
-    }
-    0
+    let shading = (!paint.flat).then_some(v);
+    draw_shape(
+        colors,
+        coverages,
+        marks,
+        paint,
+        shading,
+        raster_edges::setup(corners),
+        scissor,
+        width,
+        height,
+    )
 }
 
 // Triangle i of an index list that is admitted.
@@ -77,11 +76,11 @@ fn draw_indexed(
     ensures drew { let three = triangle_at vertices.now present.now indices.now i in
         DrewOn paint.mode paint.combiner (three_emits paint.mode paint.combiner cull scissor width height three) colors coverages marks result }
 {
-    let Three::Vertices(a, b, c) = raster_pixel::triangle_at(vertices, present, indices, i) else {
+    let Some(triangle) = raster_pixel::triangle_at(vertices, present, indices, i) else {
         return 0;
     };
     draw_triangle(
-        colors, coverages, marks, paint, cull, scissor, width, height, a, b, c,
+        colors, coverages, marks, paint, cull, scissor, width, height, triangle,
     )
 }
 
@@ -105,9 +104,8 @@ pub fn draw_triangles(
     ensures drew { let emitted = triangles_of paint.mode paint.combiner cull scissor width height vertices.now present.now indices.now in
         DrewOn paint.mode paint.combiner emitted colors coverages marks result }
 {
-    let count = indices.len() / 3;
     let mut n: u64 = 0;
-    for i in 0..count {
+    for i in 0..indices.len() / 3 {
         let drawn = draw_indexed(
             colors, coverages, marks, paint, cull, scissor, width, height, vertices, present,
             indices, i,
