@@ -4,6 +4,7 @@ use mathlib.Core.Path.{◌≡◌, refl, sym, subst, ◌∙◌}
 use mathlib.Core.Bool.{Bool, true, false, cond, ◌||◌}
 use mathlib.Core.List.{List, [], ◌∷◌, map}
 use native.Mathlib.Omega.{arith}
+use Rattle.std.specs.Prelude.{Option, None, Some}
 use lib.Dec.{eqb}
 use lib.IntN.{nat_abs}
 use lib.Ieee.{Float}
@@ -12,7 +13,7 @@ use Rattle.state.specs.declared.RenderMode.{RenderMode}
 use Rattle.combiner.specs.declared.Combiner.{Combiner}
 use Rattle.combiner.specs.Combine.{color_of, full_shade}
 use Rattle.raster_vertex.specs.declared.Vertex.{Vertex}
-use Rattle.raster_vertex.specs.Sorted.{sorted, vertex_at}
+use Rattle.raster_vertex.specs.Sorted.{sorted}
 use Rattle.raster_vertex.specs.Shade.{culled_of, shade_of}
 use Rattle.raster_edges.specs.declared.Tri.{Tri}
 use Rattle.raster_edges.specs.Edge.{area_of}
@@ -21,15 +22,13 @@ use Rattle.raster_rectangle.specs.declared.Sides.{Sides}
 use Rattle.raster_pixel.specs.declared.Geometry.{Geometry}
 use Rattle.raster_pixel.specs.declared.Geometry.TheVariants as geometry
 use Rattle.raster_pixel.specs.declared.Scissor.{Scissor}
-use Rattle.raster_pixel.specs.declared.Fragment.TheVariants.{Empty}
-use Rattle.raster_pixel.specs.declared.Three.{Three}
-use Rattle.raster_pixel.specs.declared.Three.TheVariants.{Vertices, Absent}
+use Rattle.raster_pixel.specs.declared.Fragment.{Fragment}
+use Rattle.raster_vertex.specs.declared.Triangle as vertices
 use Rattle.raster_pixel.specs.Admitted.{triangle_at}
 use Rattle.raster_pixel.specs.Area as area
 use Rattle.raster_pixel.specs.Emitted.{Emit, shown, covered, emits, inside, corner_of, triangle_fragment, triangle_emits, three_emits, rectangle_fragment, rectangle_emits, geometry_emits}
 use Rattle.raster_pixel.specs.Parts.{from}
 use Rattle.raster_pixel.proofs.Inside.{inside_area, bounded}
-use Rattle.raster_pixel.proofs.Parts.{from_empty}
 use Rattle.raster_emitted.specs.Listed.{Slots}
 use Rattle.raster_emitted.specs.Masked.{masked_of}
 use Rattle.frame.specs.Frame.{Frame}
@@ -37,33 +36,31 @@ use Rattle.frame.specs.Fits.{Fit}
 use Rattle.frame_paint.specs.Pixel.{Drew}
 use Rattle.frame_paint.specs.Steps.{draw_list}
 use Rattle.rasterize_slow.specs.declared.Shape.{Shape}
-use Rattle.rasterize_slow.specs.declared.Shape.TheVariants.{Nothing, Triangle, Rectangle}
+use Rattle.rasterize_slow.specs.declared.Shape.TheVariants.{Triangle, Rectangle}
 use Rattle.rasterize_slow.specs.declared.Walk.{Walk}
-use Rattle.rasterize_slow.specs.Shape.{shape_fragment, triangle_shape, three_shape, pixel_emits, row_emits, shape_emits, walk_emits}
+use Rattle.rasterize_slow.specs.Shape.{shape_fragment, triangle_shape, three_shape, pixel_emits, shape_emits, walk_emits}
 use Rattle.rasterize_slow.specs.Sent.{Laid, Sent}
-use Rattle.rasterize_slow.proofs.Samples.{nothing_mask, triangle_mask, rectangle_mask}
+use Rattle.rasterize_slow.proofs.Samples.{triangle_mask, rectangle_mask}
 
 -- ---- a pixel
 module _ (antialias : Bool) (k : Combiner) (y x : ℕ) where
-  nothing_fragment : shape_fragment antialias k Nothing y x ≡ Empty
-  unfolding shape_fragment
-  nothing_fragment = λ i. cond (shown antialias (nothing_mask y x i)) (covered (nothing_mask y x i) (color_of k full_shade) full_shade.a) Empty
-
-  triangle-fragment :
-      (t : Tri) (o : List Vertex)
-      → shape_fragment antialias k (Triangle t (vertex_at o 0) (vertex_at o 1) (vertex_at o 2)) y x ≡ triangle_fragment antialias k o (edges_of t y) y x
+  triangle-fragment : (t : Tri) (o : List Vertex) → shape_fragment antialias k (Triangle t o) y x ≡ triangle_fragment antialias k o (edges_of t y) y x
   unfolding shape_fragment triangle_fragment
   triangle-fragment t o =
       λ i.
-      let mask = triangle_mask t (vertex_at o 0) (vertex_at o 1) (vertex_at o 2) y x i in
-      cond (shown antialias mask) (covered mask (color_of k (shade_of o x y)) (shade_of o x y).a) Empty
+      let mask = triangle_mask t o y x i in
+      cond (shown antialias mask) (covered mask (color_of k (shade_of o x y)) (shade_of o x y).a) None
 
   -- of a triangle, which may be skipped
+  abbrev pub optional_fragment : Option Shape → Option Fragment
+  optional_fragment None = None
+  optional_fragment (Some shape) = shape_fragment antialias k shape y x
+
   pub skipped_fragment :
       (cull : Bool) (a b c : Vertex)
       → (let o = sorted (a ∷ b ∷ c ∷ []) in let corners = map corner_of o in
-      shape_fragment antialias k (triangle_shape cull a b c) y x
-      ≡ cond (culled_of cull a b c || eqb (nat_abs (area_of corners)) 0) Empty (triangle_fragment antialias k o (edges_of (tri_of corners) y) y x))
+      optional_fragment (triangle_shape cull a b c)
+      ≡ cond (culled_of cull a b c || eqb (nat_abs (area_of corners)) 0) None (triangle_fragment antialias k o (edges_of (tri_of corners) y) y x))
   unfolding triangle_shape
   skipped_fragment cull a b c =
       let o = sorted (a ∷ b ∷ c ∷ []) in
@@ -71,15 +68,15 @@ module _ (antialias : Bool) (k : Combiner) (y x : ℕ) where
     where
       go :
           (skipped : Bool) (t : Tri) (o : List Vertex)
-          → shape_fragment antialias k (cond skipped Nothing (Triangle t (vertex_at o 0) (vertex_at o 1) (vertex_at o 2))) y x
-          ≡ cond skipped Empty (triangle_fragment antialias k o (edges_of t y) y x)
-      go true t o = nothing_fragment
+          → optional_fragment (cond skipped None (Some (Triangle t o)))
+          ≡ cond skipped None (triangle_fragment antialias k o (edges_of t y) y x)
+      go true t o = refl
       go false t o = triangle-fragment t o
 
   pub rectangle-fragment : (s : Sides) → shape_fragment antialias k (Rectangle s) y x ≡ rectangle_fragment antialias (color_of k full_shade) s y x
   unfolding shape_fragment rectangle_fragment
   rectangle-fragment s =
-      λ i. cond (shown antialias (rectangle_mask s y x i)) (covered (rectangle_mask s y x i) (color_of k full_shade) full_shade.a) Empty
+      λ i. cond (shown antialias (rectangle_mask s y x i)) (covered (rectangle_mask s y x i) (color_of k full_shade) full_shade.a) None
 
 -- ---- a walk over the area of a scissor
 module _ (v : Walk) (s : Scissor) (h : ℕ) (ea : v.area ≡ area.area_of s v.width h) where
@@ -99,15 +96,9 @@ module _ (v : Walk) (s : Scissor) (h : ℕ) (ea : v.area ≡ area.area_of s v.wi
 
   -- every pixel inside the scissor
   by_pixel :
-      (shape : Shape) (pixel : ℕ → ℕ → List Emit) → ((y x : ℕ) → pixel_emits v shape y x ≡ pixel y x) → shape_emits v shape ≡ inside s w h pixel
+      (shape : Shape) (pixel : ℕ → ℕ → List Emit) → ((y x : ℕ) → pixel_emits v shape y x ≡ pixel y x) → shape_emits v (Some shape) ≡ inside s w h pixel
   by_pixel shape pixel e =
       (λ i. from (λ (y : ℕ). from (λ (x : ℕ). e y x i) (ea i).left (ea i).right) (ea i).top (ea i).bottom) ∙ sym (inside_area s w h pixel)
-
-  none : shape_emits v Nothing ≡ []
-  none =
-      from_empty (row_emits v Nothing) v.area.top v.area.bottom (λ y p q.
-      from_empty (pixel_emits v Nothing y) v.area.left v.area.right (λ x p q i.
-      emits (nothing_fragment mode.antialias k y x i) (y * w + x)))
 
   triangle-emits : (cull : Bool) (a b c : Vertex) → shape_emits v (triangle_shape cull a b c) ≡ triangle_emits mode k cull s w h a b c
   unfolding triangle_shape triangle_emits
@@ -117,22 +108,21 @@ module _ (v : Walk) (s : Scissor) (h : ℕ) (ea : v.area ≡ area.area_of s v.wi
     where
       go :
           (skipped : Bool) (t : Tri) (o : List Vertex)
-          → shape_emits v (cond skipped Nothing (Triangle t (vertex_at o 0) (vertex_at o 1) (vertex_at o 2)))
+          → shape_emits v (cond skipped None (Some (Triangle t o)))
           ≡ cond skipped [] (inside s w h (λ (y x : ℕ). emits (triangle_fragment mode.antialias k o (edges_of t y) y x) (y * w + x)))
-      go true t o = none
+      go true t o = refl
       go false t o = by_pixel _ _ (λ y x i. emits (triangle-fragment mode.antialias k y x t o i) (y * w + x))
 
-  three-emits : (cull : Bool) (t : Three) → shape_emits v (three_shape cull t) ≡ three_emits mode k cull s w h t
-  three-emits cull Absent = none
-  three-emits cull (Vertices a b c) = triangle-emits cull a b c
+  three-emits : (cull : Bool) (t : Option vertices.Triangle) → shape_emits v (three_shape cull t) ≡ three_emits mode k cull s w h t
+  three-emits cull None = refl
+  three-emits cull (Some t) = triangle-emits cull t.a t.b t.c
 
   -- A draw: the slow engine's list is the one emitted list.
   pub walk-emits :
       (cull : Bool) (vs : List Float) (ps is : List ℕ) (g : Geometry) → walk_emits v cull vs ps is g ≡ geometry_emits mode k cull s w h vs ps is g
   unfolding rectangle_emits
   walk-emits cull vs ps is geometry.Nothing = refl
-  walk-emits cull vs ps is (geometry.Rectangle l t r b) =
-      by_pixel _ _ (λ y x i. emits (rectangle-fragment mode.antialias k y x (record { left = l; top = t; right = r; bottom = b }) i) (y * w + x))
+  walk-emits cull vs ps is (geometry.Rectangle sides) = by_pixel _ _ (λ y x i. emits (rectangle-fragment mode.antialias k y x sides i) (y * w + x))
   walk-emits cull vs ps is geometry.Triangles = λ i. from (λ (j : ℕ). three-emits cull (triangle_at vs ps is j) i) 0 (length is / 3)
 
 -- ---- a walk that draws, and counts as far as it emits

@@ -2,11 +2,12 @@
 use Prim.Native.Nat.{ℕ, ◌+◌, ◌*◌, ◌<◌}
 use mathlib.Core.Path.{◌≡◌, refl}
 use mathlib.Core.Bool.{Bool, true, false, cond}
+use mathlib.Core.List.{List}
 use native.Mathlib.Nat.{add-zero}
 use native.Mathlib.Omega.{arith}
 use Rattle.combiner.specs.declared.Combiner.{Combiner}
-use Rattle.combiner.specs.declared.Color.{Color}
-use Rattle.combiner.specs.declared.Color.TheVariants as color
+use Rattle.std.specs.Prelude.{Option, Some, None}
+use Rattle.state.specs.declared.Rgba.{Rgba}
 use Rattle.combiner.specs.Combine.{color_of}
 use Rattle.raster_vertex.specs.declared.Vertex.{Vertex}
 use Rattle.raster_edges.specs.declared.Tri.{Tri}
@@ -15,11 +16,10 @@ use Rattle.raster_edges.specs.Span.{line_of, edges_of}
 use Rattle.raster_edges.proofs.Pairs.{bit_lt}
 use Rattle.raster_rectangle.specs.declared.Sides.{Sides}
 use Rattle.raster_rectangle.specs.Rectangle.{inside_of, sample_x, sample_y, sample_bit, row_bits, rect_mask}
-use Rattle.raster_pixel.specs.declared.Fragment.TheVariants.{Empty}
 use Rattle.raster_pixel.specs.Emitted.{shown, covered}
 use Rattle.raster_pixel.proofs.Masks.{shown_some}
 use Rattle.rasterize_slow.specs.declared.Shape.{Shape}
-use Rattle.rasterize_slow.specs.declared.Shape.TheVariants.{Nothing, Triangle, Rectangle}
+use Rattle.rasterize_slow.specs.declared.Shape.TheVariants.{Triangle, Rectangle}
 use Rattle.rasterize_slow.specs.Shape.{sample_hit, pair_hit, shape_mask, shape_shade, shape_fragment, HasSample}
 
 pub pair_lt : (shape : Shape) (y x line : ℕ) → pair_hit shape y x line < 4
@@ -30,25 +30,20 @@ pub mask_lt : (shape : Shape) (y x : ℕ) → shape_mask shape y x < 256
 unfolding shape_mask
 mask_lt shape y x = omega (arith, pair_lt shape y x 0, pair_lt shape y x 1, pair_lt shape y x 2, pair_lt shape y x 3)
 
--- nothing holds no sample
-pub nothing_mask : (y x : ℕ) → shape_mask Nothing y x ≡ 0
-unfolding shape_mask pair_hit sample_hit
-nothing_mask y x = refl
-
 -- a triangle
 triangle_pair :
-    (t : Tri) (a b c : Vertex) (y x line : ℕ)
-    → pair_hit (Triangle t a b c) y x line ≡ two_of (line_of t (y * 4 + line)).l (line_of t (y * 4 + line)).r (sample_at x line)
+    (t : Tri) (o : List Vertex) (y x line : ℕ)
+    → pair_hit (Triangle t o) y x line ≡ two_of (line_of t (y * 4 + line)).l (line_of t (y * 4 + line)).r (sample_at x line)
 unfolding pair_hit sample_hit two_of
-triangle_pair t a b c y x line =
+triangle_pair t o y x line =
     λ i.
     2 * bit_of (inside (line_of t (y * 4 + line)).l (line_of t (y * 4 + line)).r (add-zero (sample_at x line) i))
     + bit_of (inside (line_of t (y * 4 + line)).l (line_of t (y * 4 + line)).r (sample_at x line + 4))
 
-pub triangle_mask : (t : Tri) (a b c : Vertex) (y x : ℕ) → shape_mask (Triangle t a b c) y x ≡ mask_of (edges_of t y) x
+pub triangle_mask : (t : Tri) (o : List Vertex) (y x : ℕ) → shape_mask (Triangle t o) y x ≡ mask_of (edges_of t y) x
 unfolding shape_mask mask_of pair_of edges_of
-triangle_mask t a b c y x =
-    λ i. 64 * triangle_pair t a b c y x 0 i + 16 * triangle_pair t a b c y x 1 i + 4 * triangle_pair t a b c y x 2 i + triangle_pair t a b c y x 3 i
+triangle_mask t o y x =
+    λ i. 64 * triangle_pair t o y x 0 i + 16 * triangle_pair t o y x 1 i + 4 * triangle_pair t o y x 2 i + triangle_pair t o y x 3 i
 
 -- a rectangle
 scaled : (t : Bool) (n : ℕ) → n * bit_of t ≡ cond t n 0
@@ -78,7 +73,7 @@ pub fragment_some : (antialias : Bool) (k : Combiner) (shape : Shape) (y x : ℕ
 unfolding shape_fragment
 fragment_some antialias k shape y x = go (shown antialias (shape_mask shape y x)) refl (color_of k (shape_shade shape y x))
   where
-    go : (b : Bool) → shown antialias (shape_mask shape y x) ≡ b → (c : Color) → HasSample (cond b (covered (shape_mask shape y x) c (shape_shade shape y x).a) Empty)
+    go : (b : Bool) → shown antialias (shape_mask shape y x) ≡ b → (c : Option Rgba) → HasSample (cond b (covered (shape_mask shape y x) c (shape_shade shape y x).a) None)
     go false e c = tt
-    go true e color.Refused = tt
-    go true e (color.Value r g b a) = (shown_some antialias (shape_mask shape y x) e, mask_lt shape y x)
+    go true e None = tt
+    go true e (Some c) = (shown_some antialias (shape_mask shape y x) e, mask_lt shape y x)

@@ -10,7 +10,6 @@ ghost use Rattle.frame.specs.Fits.{Fit};
 ghost use Rattle.frame_paint.specs.Pixel.{Room, DrewOn, emit_of};
 ghost use Rattle.frame_paint.specs.Paint.{Mixed};
 ghost use Rattle.frame_paint.specs.Steps.{step_frame};
-ghost use Rattle.raster_edges.specs.Sample.{inside};
 ghost use Rattle.raster_pixel.specs.declared.Geometry.TheVariants.{Triangles};
 ghost use Rattle.raster_pixel.specs.Admitted.{admitted_of, triangle_at};
 ghost use Rattle.raster_pixel.specs.Area.{Sized};
@@ -18,26 +17,22 @@ ghost use Rattle.raster_pixel.specs.Near.{CornersNear, TrianglesNear};
 ghost use Rattle.raster_pixel.specs.Emitted.{emits, geometry_emits};
 ghost use Rattle.raster_emitted.specs.Shapes.{geometry_masks};
 ghost use Rattle.raster_emitted.specs.Listed.{ReadyIn, ListedIn};
-ghost use Rattle.rasterize_slow.specs.Shape.{sample_hit, pair_hit, shape_mask, shape_shade, shape_fragment, HasSample, TameShape, triangle_shape, three_shape, row_emits, shape_emits, triangles_emits, walk_emits};
+ghost use Rattle.rasterize_slow.specs.Shape.{sample_hit, pair_hit, shape_mask, shape_shade, shape_fragment, HasSample, TameShape, TameIfSome, triangle_shape, three_shape, row_emits, shape_emits, triangles_emits, walk_emits};
 ghost use Rattle.rasterize_slow.specs.Sent.{Laid, OpenIn, SentIn};
 
 use blender::Source;
-use combiner::{Color, Combiner};
+use combiner::Combiner;
 use raster_edges::Tri;
 use raster_emitted::slots::Window;
-use raster_pixel::{Area, Fragment, Geometry, Scissor, Three};
+use raster_pixel::{Area, Fragment, Geometry, Scissor};
 use raster_rectangle::Sides;
-use raster_vertex::Vertex;
+use raster_vertex::{Triangle, Vertex};
 use state::{RenderMode, Rgba};
 
-// The largest count of 64 bits.
-const LARGEST: u64 = 18446744073709551615;
-
-// A triangle by its edges and its vertices, sorted from the top down, or a rectangle by its sides. `Nothing` holds no sample.
+// A triangle by its edges and its vertices, sorted from the top down, or a rectangle by its sides.
 #[derive(Clone, Copy)]
 pub enum Shape {
-    Nothing,
-    Triangle(Tri, Vertex, Vertex, Vertex),
+    Triangle(Tri, [Vertex; 3]),
     Rectangle(Sides),
 }
 
@@ -55,57 +50,43 @@ pub struct Walk {
 // ---- a triangle
 
 // The vertices sorted, their corners in quarters of a pixel, and the edges between them. Nothing of a triangle that is culled or whose area in quarter units is 0.
-pub fn triangle(cull: bool, a: Vertex, b: Vertex, c: Vertex) -> Shape
-    requires { CornersNear a b c }
-    ensures { result ≡ triangle_shape cull a b c }
+pub fn triangle(cull: bool, t: Triangle) -> Option<Shape>
+    requires { CornersNear t.a t.b t.c }
+    ensures { result ≡ triangle_shape cull t.a t.b t.c }
 {
-    if raster_vertex::culled(cull, a, b, c) {
-        return Shape::Nothing;
+    if t.culled(cull) {
+        return None;
     }
-    let v = raster_vertex::sort([a, b, c]);
-    let corners = raster_pixel::corners(v);
+    let vertices = raster_vertex::sort([t.a, t.b, t.c]);
+    let corners = raster_pixel::corners(vertices);
     if raster_edges::quarter_area(corners) == 0 {
-        return Shape::Nothing;
+        return None;
     }
-    let t = raster_edges::setup(corners);
-    let top = v[0];
-    let middle = v[1];
-    let bottom = v[2];
-    Shape::Triangle(t, top, middle, bottom)
+    Some(Shape::Triangle(raster_edges::setup(corners), vertices))
 }
 
 // Triangle i of an index list that is admitted.
-fn indexed(cull: bool, vertices: &[f32], present: &[u8], indices: &[u32], i: usize) -> Shape
+fn indexed(cull: bool, vertices: &[f32], present: &[u8], indices: &[u32], i: usize) -> Option<Shape>
     requires { (i < length indices.now / 3) × TrianglesNear vertices.now present.now indices.now }
     ensures { result ≡ three_shape cull (triangle_at vertices.now present.now indices.now i) }
 {
-    let Three::Vertices(a, b, c) = raster_pixel::triangle_at(vertices, present, indices, i) else {
-        return Shape::Nothing;
-    };
-    triangle(cull, a, b, c)
+    let t = raster_pixel::triangle_at(vertices, present, indices, i)?;
+    triangle(cull, t)
 }
 
 // ---- the samples of a pixel
 
-// Whether a sample at `at`, in eighths of a pixel, lies between two edges: it does on the left one, and does not on the right one.
-fn held(left: i64, right: i64, at: u32) -> bool
-    ensures { result ≡ inside left right at }
-{
-    let p = at as i64;
-    left <= p && p < right
-}
-
 // Whether a shape holds a sample of pixel (x, y): on line 0 to 3 of its four, the left one, side 0, or the right one, side 1. On the odd lines both lie a quarter of a
 // pixel further right.
+#[tactic(auto, unfolding(crate::specs::Shape::sample_hit))]
 fn sample(shape: Shape, y: u32, x: u32, line: u32, side: u32) -> bool
     requires { (x < 1024) × (y < 1024) × (line < 4) × (side < 2) × TameShape shape }
     ensures { result ≡ sample_hit shape y x line side }
 {
     match shape {
-        Shape::Nothing => false,
-        Shape::Triangle(t, _, _, _) => {
+        Shape::Triangle(t, _) => {
             let span = raster_edges::line_at(t, y * 4 + line);
-            held(span.l, span.r, x * 8 + (line & 1) * 2 + side * 4)
+            raster_edges::inside(span.l, span.r, x * 8 + (line & 1) * 2 + side * 4)
         }
         Shape::Rectangle(sides) => {
             let column = (line & 1) + side * 2;
@@ -116,6 +97,7 @@ fn sample(shape: Shape, y: u32, x: u32, line: u32, side: u32) -> bool
 }
 
 // The two samples of a line, the left one in the upper bit.
+#[tactic(auto, unfolding(crate::specs::Shape::pair_hit))]
 fn pair(shape: Shape, y: u32, x: u32, line: u32) -> u8
     requires { (x < 1024) × (y < 1024) × (line < 4) × TameShape shape }
     ensures { result ≡ pair_hit shape y x line }
@@ -124,6 +106,7 @@ fn pair(shape: Shape, y: u32, x: u32, line: u32) -> u8
 }
 
 // The eight samples: bit 7 is the upper line's left one.
+#[tactic(auto, unfolding(crate::specs::Shape::shape_mask))]
 fn mask(shape: Shape, y: u32, x: u32) -> u8
     requires { (x < 1024) × (y < 1024) × TameShape shape }
     ensures { result ≡ shape_mask shape y x }
@@ -143,26 +126,28 @@ fn shade(shape: Shape, y: u32, x: u32) -> Rgba
     ensures { result ≡ shape_shade shape y x }
 {
     match shape {
-        Shape::Triangle(_, a, b, c) => raster_vertex::shade([a, b, c], x as usize, y as usize),
-        Shape::Nothing => combiner::full_shade(),
+        Shape::Triangle(_, vertices) => raster_vertex::shade(vertices, x as usize, y as usize),
         Shape::Rectangle(_) => combiner::full_shade(),
     }
 }
 
 // Nothing if no sample is hit; without antialias, nothing unless the upper left one is.
-pub fn pixel(antialias: bool, combiner: Combiner, shape: Shape, y: u32, x: u32) -> Fragment
+#[tactic(auto, unfolding(crate::specs::Shape::shape_fragment))]
+pub fn pixel(antialias: bool, combiner: Combiner, shape: Shape, y: u32, x: u32) -> Option<Fragment>
     requires { (x < 1024) × (y < 1024) × TameShape shape }
     ensures { result ≡ shape_fragment antialias combiner shape y x }
 {
     let mask = mask(shape, y, x);
     if !raster_pixel::is_shown(antialias, mask) {
-        return Fragment::Empty;
+        return None;
     }
     let shade = shade(shape, y, x);
-    let Color::Value(r, g, b, a) = combiner.color(shade) else {
-        return Fragment::Empty;
-    };
-    Fragment::Covered(mask, r, g, b, a, shade.a)
+    let color = combiner.color(shade)?;
+    Some(Fragment {
+        mask,
+        color,
+        shade_alpha: shade.a,
+    })
 }
 
 // Rules F1 to F5 at a pixel's place, if the walk draws.
@@ -170,30 +155,25 @@ fn draw_pixel(
     colors: &mut [u8],
     coverages: &mut [u8],
     marks: &mut [u8],
-    draws: bool,
-    mode: RenderMode,
-    combiner: Combiner,
-    mask: u8,
-    color: Rgba,
-    shade_alpha: f32,
+    walk: Walk,
+    fragment: Fragment,
     pixel: usize,
 )
-    requires mask_nonzero { 0 < mask }
-    requires pixel_in_bounds { draws ≡ true → (pixel < length marks.old) × Fit (length marks.old) (lent colors coverages marks) }
+    requires mask_nonzero { 0 < fragment.mask }
+    requires pixel_in_bounds { walk.draws ≡ true → (pixel < length marks.old) × Fit (length marks.old) (lent colors coverages marks) }
     ensures { let f = before colors coverages marks in
-        after colors coverages marks ≡ cond draws (step_frame mode combiner f (emit_of pixel mask color shade_alpha)) f }
+        after colors coverages marks ≡ cond walk.draws (step_frame walk.mode walk.combiner f (emit_of pixel fragment.mask fragment.color fragment.shade_alpha)) f }
 {
-    if !draws {
+    if !walk.draws {
         return;
     }
     let before = frame::known_pixel(colors, coverages, marks, pixel);
-    let count = num_bits::ones(mask);
     let source = Source {
-        color,
-        shade_alpha,
-        count,
+        color: fragment.color,
+        shade_alpha: fragment.shade_alpha,
+        count: num_bits::ones(fragment.mask),
     };
-    let after = frame_pixel::rules(mode, combiner, source, before);
+    let after = frame_pixel::rules(walk.mode, walk.combiner, source, before);
     frame::put_pixel(colors, coverages, marks, pixel, after);
 }
 
@@ -205,7 +185,7 @@ fn emit(
     pixels: &mut [u32],
     masks: &mut [u8],
     walk: Walk,
-    fragment: Fragment,
+    fragment: Option<Fragment>,
     pixel: u32,
     n: u64,
 ) -> u64
@@ -213,24 +193,12 @@ fn emit(
     requires there { HasSample fragment × (pixel < 1048576) × ((walk.draws ≡ true → pixel < length marks.old)) }
     ensures sent { SentIn walk (emits fragment pixel) n result colors coverages marks pixels masks }
 {
-    let Fragment::Covered(mask, r, g, b, a, shade_alpha) = fragment else {
+    let Some(fragment) = fragment else {
         return n;
     };
-    let color = Rgba { r, g, b, a };
-    draw_pixel(
-        colors,
-        coverages,
-        marks,
-        walk.draws,
-        walk.mode,
-        walk.combiner,
-        mask,
-        color,
-        shade_alpha,
-        pixel as usize,
-    );
+    draw_pixel(colors, coverages, marks, walk, fragment, pixel as usize);
     // Counted, and listed in its slot if it has one: a run of one pixel.
-    raster_emitted::slots::list_run(pixels, masks, walk.window, n, pixel, mask, 1)
+    raster_emitted::slots::list_run(pixels, masks, walk.window, n, pixel, fragment.mask, 1)
 }
 
 // ---- every pixel of every row
@@ -268,13 +236,16 @@ fn visit_rows(
     pixels: &mut [u32],
     masks: &mut [u8],
     walk: Walk,
-    shape: Shape,
+    shape: Option<Shape>,
     n: u64,
 ) -> u64
     requires open { OpenIn walk n colors coverages marks pixels masks }
-    requires shape { Laid walk × TameShape shape }
+    requires shape { Laid walk × TameIfSome shape }
     ensures sent { SentIn walk (shape_emits walk shape) n result colors coverages marks pixels masks }
 {
+    let Some(shape) = shape else {
+        return n;
+    };
     let mut m = n;
     for y in walk.area.top..walk.area.bottom {
         m = visit_row(colors, coverages, marks, pixels, masks, walk, shape, y, m);
@@ -300,9 +271,8 @@ fn visit_triangles(
     requires near { Laid walk × TrianglesNear vertices.now present.now indices.now }
     ensures sent { SentIn walk (triangles_emits walk cull vertices.now present.now indices.now) 0 result colors coverages marks pixels masks }
 {
-    let count = indices.len() / 3;
     let mut m: u64 = 0;
-    for i in 0..count {
+    for i in 0..indices.len() / 3 {
         let shape = indexed(cull, vertices, present, indices, i);
         m = visit_rows(colors, coverages, marks, pixels, masks, walk, shape, m);
     }
@@ -328,14 +298,8 @@ fn visit(
 {
     match geometry {
         Geometry::Nothing => 0,
-        Geometry::Rectangle(left, top, right, bottom) => {
-            let sides = Sides {
-                left,
-                top,
-                right,
-                bottom,
-            };
-            let shape = Shape::Rectangle(sides);
+        Geometry::Rectangle(sides) => {
+            let shape = Some(Shape::Rectangle(sides));
             visit_rows(colors, coverages, marks, pixels, masks, walk, shape, 0)
         }
         Geometry::Triangles => visit_triangles(
@@ -368,18 +332,16 @@ pub fn rasterize(
 {
     let mut pixels = [0u32; 0];
     let mut masks = [0u8; 0];
-    let window = Window {
-        first: 0,
-        limit: LARGEST,
-    };
-    let area = raster_pixel::scissor_area(scissor, width, height);
     let walk = Walk {
         draws: true,
-        window,
+        window: Window {
+            first: 0,
+            limit: u64::MAX,
+        },
         mode,
         combiner,
         width,
-        area,
+        area: raster_pixel::scissor_area(scissor, width, height),
     };
     visit(
         colors,
@@ -420,14 +382,13 @@ pub fn list_pixels(
     let mut colors = [0u8; 0];
     let mut coverages = [0u8; 0];
     let mut marks = [0u8; 0];
-    let area = raster_pixel::scissor_area(scissor, width, height);
     let walk = Walk {
         draws: false,
         window,
         mode,
         combiner,
         width,
-        area,
+        area: raster_pixel::scissor_area(scissor, width, height),
     };
     visit(
         &mut colors,
