@@ -7,8 +7,7 @@ use mathlib.Core.List.{List, []}
 use native.Mathlib.Omega.{arith}
 use lib.ListN.{length}
 use Rattle.combiner.specs.declared.Combiner.{Combiner}
-use Rattle.combiner.specs.declared.Made.{Made}
-use Rattle.combiner.specs.declared.Made.TheVariants.{With, Without}
+use Rattle.std.specs.Prelude.{Option, Some, None}
 use Rattle.combiner.specs.New.{new_of}
 use Rattle.raster_pixel.specs.Admitted.{admitted_of}
 use Rattle.raster_pixel.specs.Emitted.{Emit}
@@ -29,9 +28,9 @@ module _ (d : DrawArgs) (w h : ℕ) where
   emitted_placed : (k : Combiner) → Placed (w * h) (emitted_by d w h k)
   emitted_placed k = geometry_placed d.scissor w h d.mode k d.cull d.vertices d.present d.indices d.geometry
 
-  made_placed : (m : Made) → Placed (w * h) (pixels_of (made_plan d w h m))
-  made_placed Without = Placed.none
-  made_placed (With k) = go (admitted_of k d.geometry d.vertices d.present d.indices)
+  made_placed : (m : Option Combiner) → Placed (w * h) (pixels_of (made_plan d w h m))
+  made_placed None = Placed.none
+  made_placed (Some k) = go (admitted_of k d.geometry d.vertices d.present d.indices)
     where
       go : (b : Bool) → Placed (w * h) (pixels_of (cond b (Plan.accept k (emitted_by d w h k)) (Plan.refuse 7)))
       go true = emitted_placed k

@@ -12,17 +12,18 @@ use lib.Ieee.{Float}
 use lib.ListN.{length}
 use Rattle.num_float.proofs.Tests.{both_left, both_right}
 use Rattle.combiner.specs.declared.Combiner.{Combiner}
-use Rattle.combiner.specs.declared.Made.{Made}
-use Rattle.combiner.specs.declared.Made.TheVariants as made
+use Rattle.std.specs.Prelude.{Option, Some, None, Result, Ok, Err}
+use Rattle.std.specs.Option.{ok_or}
+use Rattle.std.specs.Result.{IsErrAnd}
+use Rattle.refused.specs.declared.Refusal.{Refusal}
+use Rattle.refused.specs.declared.Refusal.TheVariants as refusal
+use Rattle.refused.specs.Numbers.{number_of}
+use Rattle.refused.proofs.Numbers.{positive}
 use Rattle.combiner.specs.New.{new_of}
 use Rattle.raster_pixel.specs.declared.Scissor.{Scissor}
 use Rattle.raster_pixel.specs.Admitted.{admitted_of}
 use Rattle.raster_pixel.specs.Area.{Sized}
 use Rattle.raster_pixel.specs.Emitted.{Emit}
-use Rattle.frame_draw.specs.declared.Accepted.{Accepted}
-use Rattle.frame_draw.specs.declared.Accepted.TheVariants as accept
-use Rattle.frame_draw.specs.declared.Drawn.{Drawn}
-use Rattle.frame_draw.specs.declared.Drawn.TheVariants as drawn
 use Rattle.frame.specs.Frame.{Frame}
 use Rattle.frame.specs.Fits.{Fit}
 use Rattle.frame_paint.specs.Pixel.{Drew, Room}
@@ -36,64 +37,68 @@ use Rattle.frame.proofs.Fits.{accepted}
 
 -- ---- the plan that the checks find
 module _ (d : DrawArgs) (w h : ℕ) (f : Frame) where
-  module _ {k : ℕ} (e : k ≡ entry_refusal f w h d.scissor d.vertices d.present d.indices) where
-    pub early : (k ≡ 0 → ⊥) → plan_by d w h (accept.Refused k) ≡ plan_of d w h f
+  -- an `Err` that is handed on
+  refused : (e : Refusal) (r : Result Combiner Refusal) → IsErrAnd r (λ (x : Refusal). x ≡ e) → plan_by d w h r ≡ Plan.refuse (number_of e)
+  refused e (Ok k) q = absurd q
+  refused e (Err x) q = ap (λ (x : Refusal). Plan.refuse (number_of x)) q
+
+  pub early :
+      (e : Refusal) → number_of e ≡ entry_refusal f w h d.scissor d.vertices d.present d.indices → (r : Result Combiner Refusal) → IsErrAnd r (λ (x : Refusal). x ≡ e)
+      → plan_by d w h r ≡ plan_of d w h f
+  unfolding plan_of
+  early e p r q = refused e r q ∙ rw (← p) (go (number_of e) (positive e))
+    where
+      go : (j : ℕ) → 1 ≤ j → Plan.refuse j ≡ refuse_or j (made_plan d w h (new_of d.uniform d.mode))
+      go zero n = absurd (omega arith)
+      go (suc j) n = refl
+
+  module _ (z : 0 ≡ entry_refusal f w h d.scissor d.vertices d.present d.indices) {md : Option Combiner} (em : md ≡ new_of d.uniform d.mode) where
+    made_as : made_plan d w h md ≡ plan_of d w h f
     unfolding plan_of
-    early n = rw (← e) (go k n)
-      where
-        go : (j : ℕ) → (j ≡ 0 → ⊥) → Plan.refuse j ≡ refuse_or j (made_plan d w h (new_of d.uniform d.mode))
-        go zero n = absurd (n refl)
-        go (suc j) n = refl
+    made_as = rw (← z, ← em)
 
-    module _ (z : k ≡ 0) {md : Made} (em : md ≡ new_of d.uniform d.mode) where
-      made_as : made_plan d w h md ≡ plan_of d w h f
-      unfolding plan_of
-      made_as = rw (← e, z, ← em)
+    pub sixth : md ≡ None → (e : Refusal) → e ≡ refusal.Combiner → (r : Result Combiner Refusal) → IsErrAnd r (λ (x : Refusal). x ≡ e) → plan_by d w h r ≡ plan_of d w h f
+    sixth n e s r q = refused e r q ∙ ap (λ (x : Refusal). Plan.refuse (number_of x)) s ∙ ap (made_plan d w h) (sym n) ∙ made_as
 
-      pub sixth : md ≡ made.Without → plan_by d w h (accept.Refused 6) ≡ plan_of d w h f
-      sixth n = ap (made_plan d w h) (sym n) ∙ made_as
+    module _ {x : Combiner} (ex : md ≡ Some x) where
+      admitted_as : admitted_plan d w h x ≡ plan_of d w h f
+      admitted_as = ap (made_plan d w h) (sym ex) ∙ made_as
 
-      module _ {x : Combiner} (ex : md ≡ made.With x) where
-        admitted_as : admitted_plan d w h x ≡ plan_of d w h f
-        admitted_as = ap (made_plan d w h) (sym ex) ∙ made_as
+      pub seventh : admitted_of x d.geometry d.vertices d.present d.indices ≡ false → plan_by d w h (Err refusal.Geometry) ≡ plan_of d w h f
+      seventh n = (λ i. cond (sym n i) (Plan.accept x (emitted_by d w h x)) (Plan.refuse 7)) ∙ admitted_as
 
-        pub seventh : admitted_of x d.geometry d.vertices d.present d.indices ≡ false → plan_by d w h (accept.Refused 7) ≡ plan_of d w h f
-        seventh n = (λ i. cond (sym n i) (Plan.accept x (emitted_by d w h x)) (Plan.refuse 7)) ∙ admitted_as
+      pub taken : admitted_of x d.geometry d.vertices d.present d.indices ≡ true → plan_by d w h (Ok x) ≡ plan_of d w h f
+      taken n = (λ i. cond (sym n i) (Plan.accept x (emitted_by d w h x)) (Plan.refuse 7)) ∙ admitted_as
 
-        pub taken : admitted_of x d.geometry d.vertices d.present d.indices ≡ true → plan_by d w h (accept.With x) ≡ plan_of d w h f
-        taken n = (λ i. cond (sym n i) (Plan.accept x (emitted_by d w h x)) (Plan.refuse 7)) ∙ admitted_as
+-- what `ok_or` answers tells whether there is a combiner
+pub some_combiner : (md : Option Combiner) {x : Combiner} {r : Result Combiner Refusal} → r ≡ ok_or md refusal.Combiner → r ≡ Ok x → md ≡ Some x
+some_combiner None p q = cc
+some_combiner (Some y) p q = cc
+
+pub no_combiner : (md : Option Combiner) {e : Refusal} {r : Result Combiner Refusal} → r ≡ ok_or md refusal.Combiner → r ≡ Err e → (md ≡ None) × (e ≡ refusal.Combiner)
+no_combiner None p q = (refl, cc)
+no_combiner (Some y) p q = cc
 
 -- ---- an accepted plan
 clash : {n : ℕ} {x : Combiner} {es : List Emit} → Plan.accept x es ≡ Plan.refuse n → ⊥
-clash p = let z : ◌≡◌ {A = ℕ} 0 1 = cc in omega arith
+clash p = cc
 
-abbrev Taken : DrawArgs → Combiner → ℕ → Made → Type 0
-Taken d x k md = (k ≡ 0) × ((admitted_of x d.geometry d.vertices d.present d.indices ≡ true) × (md ≡ made.With x))
+abbrev Taken : DrawArgs → Combiner → ℕ → Option Combiner → Type 0
+Taken d x k md = (k ≡ 0) × ((admitted_of x d.geometry d.vertices d.present d.indices ≡ true) × (md ≡ Some x))
 
 module _ (d : DrawArgs) (w h : ℕ) {x : Combiner} {es : List Emit} where
   taken-by :
       (y : Combiner) (b : Bool) → admitted_of y d.geometry d.vertices d.present d.indices ≡ b
-      → Plan.accept x es ≡ cond b (Plan.accept y (emitted_by d w h y)) (Plan.refuse 7) → Taken d x 0 (made.With y)
+      → Plan.accept x es ≡ cond b (Plan.accept y (emitted_by d w h y)) (Plan.refuse 7) → Taken d x 0 (Some y)
   taken-by y true e p =
       let q : y ≡ x = cc in
-      (refl, (ap (λ (k : Combiner). admitted_of k d.geometry d.vertices d.present d.indices) (sym q) ∙ e, ap made.With q))
+      (refl, (ap (λ (k : Combiner). admitted_of k d.geometry d.vertices d.present d.indices) (sym q) ∙ e, ap Some q))
   taken-by y false e p = absurd (clash p)
 
-  plan_taken : (k : ℕ) (md : Made) → Plan.accept x es ≡ refuse_or k (made_plan d w h md) → Taken d x k md
-  plan_taken zero made.Without p = absurd (clash p)
-  plan_taken zero (made.With y) p = taken-by y (admitted_of y d.geometry d.vertices d.present d.indices) refl p
+  plan_taken : (k : ℕ) (md : Option Combiner) → Plan.accept x es ≡ refuse_or k (made_plan d w h md) → Taken d x k md
+  plan_taken zero None p = absurd (clash p)
+  plan_taken zero (Some y) p = taken-by y (admitted_of y d.geometry d.vertices d.present d.indices) refl p
   plan_taken (suc k) md p = absurd (clash p)
-
--- a plan that refuses has a number of the list
-module _ (d : DrawArgs) (w h : ℕ) {n : ℕ} where
-  number_by : (y : Combiner) (b : Bool) → Plan.refuse n ≡ cond b (Plan.accept y (emitted_by d w h y)) (Plan.refuse 7) → 1 ≤ n
-  number_by y true p = absurd (clash (sym p))
-  number_by y false p = let q : n ≡ 7 = cc in omega arith
-
-  numbered : (k : ℕ) (md : Made) → Plan.refuse n ≡ refuse_or k (made_plan d w h md) → 1 ≤ n
-  numbered zero made.Without p = let q : n ≡ 6 = cc in omega arith
-  numbered zero (made.With y) p = number_by y (admitted_of y d.geometry d.vertices d.present d.indices) p
-  numbered (suc k) md p = let q : n ≡ suc k = cc in omega arith
 
 -- what the checks leave of a draw that they let through
 module _ (f : Frame) (w h : ℕ) (s : Scissor) (vs : List Float) (ps is : List ℕ) where
@@ -155,37 +160,29 @@ module _ (f : Frame) (w h : ℕ) (s : Scissor) (vs : List Float) (ps is : List �
 
 -- ---- the draw
 module _ (d : DrawArgs) (w h : ℕ) (f : Frame) where
-  answered : {p : Plan} {g : Frame} (a : Drawn) → p ≡ plan_of d w h f → drawn_means a ≡ answer_by p → g ≡ frame_by d.mode p f → Numbered a
-      → (drawn_means a ≡ draw_answer d w h f) × ((g ≡ draw_frame d w h f) × Numbered a)
+  -- turned away
+  pub draw_refused : (e : Refusal) → Plan.refuse (number_of e) ≡ plan_of d w h f → (r : Result ℕ Refusal) → IsErrAnd r (λ (x : Refusal). x ≡ e)
+      → (drawn_means r ≡ draw_answer d w h f) × (f ≡ draw_frame d w h f) × Numbered r
   unfolding draw_answer draw_frame
-  answered x q a b n = (a ∙ ap answer_by q, (b ∙ ap (λ (p : Plan). frame_by d.mode p f) q, n))
+  draw_refused e p (Ok n) q = absurd q
+  draw_refused e p (Err x) q =
+      let plan : Plan.refuse (number_of x) ≡ plan_of d w h f = ap (λ (x : Refusal). Plan.refuse (number_of x)) q ∙ p in
+      (ap answer_by plan, ap (λ (p : Plan). frame_by d.mode p f) plan, positive x)
 
-  pub number_of : {n : ℕ} → Plan.refuse n ≡ plan_of d w h f → 1 ≤ n
-  unfolding plan_of
-  number_of p = numbered d w h (entry_refusal f w h d.scissor d.vertices d.present d.indices) (new_of d.uniform d.mode) p
+  module _ {x : Combiner} (plan : Plan.accept x (emitted_by d w h x) ≡ plan_of d w h f) where
+    facts : Taken d x (entry_refusal f w h d.scissor d.vertices d.present d.indices) (new_of d.uniform d.mode)
+    unfolding plan_of
+    facts = plan_taken d w h (entry_refusal f w h d.scissor d.vertices d.present d.indices) (new_of d.uniform d.mode) plan
 
-  module _ (r : Accepted) (e : plan_by d w h r ≡ plan_of d w h f) where
-    pub draw_refused : {n : ℕ} → r ≡ accept.Refused n → (drawn_means (drawn.Refused n) ≡ draw_answer d w h f) × ((f ≡ draw_frame d w h f) × Numbered (drawn.Refused n))
-    draw_refused {n} er =
-        let p : Plan.refuse n ≡ plan_of d w h f = ap (plan_by d w h) (sym er) ∙ e in
-        answered (drawn.Refused n) p refl refl (number_of p)
+    pub drawable :
+        ((length d.indices ≤ 12288) × Mixed x)
+        × ((admitted_of x d.geometry d.vertices d.present d.indices ≡ true) × (Sized d.scissor w h × Room w h f))
+    drawable =
+        let y = entered f w h d.scissor d.vertices d.present d.indices facts.0 in
+        ((y.few, new_mixes d.uniform d.mode facts.1.1), (facts.1.0, (y.sized, y.room)))
 
-    module _ {x : Combiner} (er : r ≡ accept.With x) where
-      pub accepted_plan : Plan.accept x (emitted_by d w h x) ≡ plan_of d w h f
-      accepted_plan = ap (plan_by d w h) (sym er) ∙ e
-
-      facts : Taken d x (entry_refusal f w h d.scissor d.vertices d.present d.indices) (new_of d.uniform d.mode)
-      unfolding plan_of
-      facts = plan_taken d w h (entry_refusal f w h d.scissor d.vertices d.present d.indices) (new_of d.uniform d.mode) accepted_plan
-
-      pub drawable :
-          ((length d.indices ≤ 12288) × Mixed x)
-          × ((admitted_of x d.geometry d.vertices d.present d.indices ≡ true) × (Sized d.scissor w h × Room w h f))
-      drawable =
-          let y = entered f w h d.scissor d.vertices d.present d.indices facts.0 in
-          ((y.few, new_mixes d.uniform d.mode facts.1.1), (facts.1.0, (y.sized, y.room)))
-
-      pub draw_accepted :
-          {m n : ℕ} {g : Frame} → Drew d.mode x m (emitted_by d w h x) f g n
-          → (drawn_means (drawn.Emitted n) ≡ draw_answer d w h f) × ((g ≡ draw_frame d w h f) × Numbered (drawn.Emitted n))
-      draw_accepted t = answered (drawn.Emitted _) accepted_plan (ap (λ (n : ℕ). drawn_means (drawn.Emitted n)) t.ran.count) t.ran.state tt
+    pub draw_accepted :
+        {m n : ℕ} {g : Frame} → Drew d.mode x m (emitted_by d w h x) f g n → (drawn_means (Ok n) ≡ draw_answer d w h f) × (g ≡ draw_frame d w h f)
+    unfolding draw_answer draw_frame
+    draw_accepted t =
+        (ap (λ (n : ℕ). drawn_means (Ok n)) t.ran.count ∙ ap answer_by plan, t.ran.state ∙ ap (λ (p : Plan). frame_by d.mode p f) plan)

@@ -1,18 +1,16 @@
 -- To be believed. A draw: it is turned away with a number, or carried out on the pixels that it emits. Definitions only. Source: docs/RULES.md, A draw, Rules F1 to F5
 -- and The numbers.
-use Rattle.std.specs.Prelude.{ℕ, zero, suc, ◌≤◌, Bool, cond, List, Float, length}
+use Rattle.std.specs.Prelude.{ℕ, zero, suc, ◌≤◌, Bool, cond, List, Float, length, Option, Some, None, Result, Ok, Err}
 use Rattle.state.specs.declared.RenderMode.{RenderMode}
 use Rattle.state.specs.declared.CombinerUniform.{CombinerUniform}
 use Rattle.combiner.specs.declared.Combiner.{Combiner}
-use Rattle.combiner.specs.declared.Made.{Made}
-use Rattle.combiner.specs.declared.Made.TheVariants.{With, Without}
 use Rattle.combiner.specs.New.{new_of}
 use Rattle.raster_pixel.specs.declared.Scissor.{Scissor}
 use Rattle.raster_pixel.specs.declared.Geometry.{Geometry}
 use Rattle.raster_pixel.specs.Admitted.{admitted_of}
 use Rattle.raster_pixel.specs.Emitted.{Emit, geometry_emits}
-use Rattle.frame_draw.specs.declared.Drawn.{Drawn}
-use Rattle.frame_draw.specs.declared.Drawn.TheVariants.{Emitted, Refused}
+use Rattle.refused.specs.declared.Refusal.{Refusal}
+use Rattle.refused.specs.Numbers.{number_of}
 use Rattle.frame.specs.Frame.{Frame}
 use Rattle.frame.specs.Lent.{Shown, shown}
 use Rattle.frame_paint.specs.Steps.{draw_list}
@@ -62,9 +60,9 @@ admitted_plan d w h k =
     cond (admitted_of k d.geometry d.vertices d.present d.indices) (Plan.accept k (emitted_by d w h k)) (Plan.refuse 7)
 
 -- 6: `Combiner::new` answers None
-abbrev pub made_plan : DrawArgs → ℕ → ℕ → Made → Plan
-made_plan d w h Without = Plan.refuse 6
-made_plan d w h (With k) = admitted_plan d w h k
+abbrev pub made_plan : DrawArgs → ℕ → ℕ → Option Combiner → Plan
+made_plan d w h None = Plan.refuse 6
+made_plan d w h (Some k) = admitted_plan d w h k
 
 -- 1 to 5 come first
 abbrev pub refuse_or : ℕ → Plan → Plan
@@ -80,14 +78,14 @@ pub record DrawAnswer : Type 0 where
   pub number : ℕ
   pub pixels : ℕ
 
-abbrev pub drawn_means : Drawn → DrawAnswer
-drawn_means (Emitted n) = record { number = 0; pixels = n }
-drawn_means (Refused k) = record { number = k; pixels = 0 }
+abbrev pub drawn_means : Result ℕ Refusal → DrawAnswer
+drawn_means (Ok n) = record { number = 0; pixels = n }
+drawn_means (Err e) = record { number = number_of e; pixels = 0 }
 
 -- a draw that is turned away has a number of the list
-abbrev pub Numbered : Drawn → Type 0
-Numbered (Emitted n) = Unit
-Numbered (Refused k) = 1 ≤ k
+abbrev pub Numbered : Result ℕ Refusal → Type 0
+Numbered (Ok n) = Unit
+Numbered (Err e) = 1 ≤ number_of e
 
 abbrev pub answer_by : Plan → DrawAnswer
 answer_by (Plan.refuse k) = record { number = k; pixels = 0 }

@@ -12,32 +12,21 @@ ghost use Rattle.frame_paint.specs.Paint.{Mixed};
 ghost use Rattle.frame_draw.specs.Draw.{draw_of, drawn_means, draw_answer, draw_frame, Numbered};
 ghost use Rattle.frame_draw.specs.Answered.{Planned};
 
-use combiner::{Combiner, Made};
+use combiner::Combiner;
 use raster_pixel::{Geometry, Scissor};
+use refused::Refusal;
 use state::{CombinerUniform, RenderMode};
 
 mod refusal; // numbers 4 and 5
 
 // Which engine finds a draw's pixels. They are the same: `Slow` is there to be read, docs/RASTERISER.md.
-#[derive(Clone, Copy)]
+#[derive(Clone, Copy, Debug, PartialEq, Eq)]
 pub enum Engine {
     Fast,
     Slow,
 }
 
-#[derive(Clone, Copy)]
-pub enum Drawn {
-    Emitted(u64),
-    Refused(u8),
-}
-
 // What numbers 1 to 7 say of a draw: its combiner, or the first that holds.
-#[derive(Clone, Copy)]
-pub enum Accepted {
-    With(Combiner),
-    Refused(u8),
-}
-
 pub fn accept(
     width: u32,
     height: u32,
@@ -52,22 +41,17 @@ pub fn accept(
     vertices: &[f32],
     present: &[u8],
     indices: &[u32],
-) -> Accepted
+) -> Result<Combiner, Refusal>
     ensures plan { Planned (draw_of mode uniform cull scissor geometry vertices present indices) width height (frame_of colors.now coverages.now marks.now) result }
 {
-    let refusal = refusal::entry_refusal(
+    refusal::entry_refusal(
         colors, coverages, marks, width, height, scissor, vertices, present, indices,
-    );
-    if refusal != 0 {
-        return Accepted::Refused(refusal);
-    }
-    let Made::With(combiner) = Combiner::new(uniform, mode) else {
-        return Accepted::Refused(6);
-    };
+    )?;
+    let combiner = Combiner::new(uniform, mode).ok_or(Refusal::Combiner)?;
     if !raster_pixel::admitted(combiner, geometry, vertices, present, indices) {
-        return Accepted::Refused(7);
+        return Err(Refusal::Geometry);
     }
-    Accepted::With(combiner)
+    Ok(combiner)
 }
 
 // The pixels of an accepted draw, and their count.
@@ -121,19 +105,17 @@ pub fn draw(
     vertices: &[f32],
     present: &[u8],
     indices: &[u32],
-) -> Drawn
+) -> Result<u64, Refusal>
     ensures answer { drawn_means result ≡ draw_answer (draw_of mode uniform cull scissor geometry vertices present indices) width height (before colors coverages marks) }
     ensures frame { after colors coverages marks ≡ draw_frame (draw_of mode uniform cull scissor geometry vertices present indices) width height (before colors coverages marks) }
     ensures number { Numbered result }
 {
-    match accept(
+    let combiner = accept(
         width, height, colors, coverages, marks, mode, uniform, cull, scissor, geometry, vertices,
         present, indices,
-    ) {
-        Accepted::Refused(number) => Drawn::Refused(number),
-        Accepted::With(combiner) => Drawn::Emitted(rasterize_by(
-            engine, colors, coverages, marks, mode, combiner, cull, scissor, width, height,
-            geometry, vertices, present, indices,
-        )),
-    }
+    )?;
+    Ok(rasterize_by(
+        engine, colors, coverages, marks, mode, combiner, cull, scissor, width, height, geometry,
+        vertices, present, indices,
+    ))
 }
