@@ -9,6 +9,12 @@ use borrow.Author.Tests.{eq-eqb, ne_eqb}
 use lib.Dec.{eqb}
 use lib.ListN.{length, get_or, length-map, get_or-map}
 use lib.Seq.{ext_get_or}
+use Rattle.std.specs.Prelude.{Option, Some, None, Result, Ok, Err}
+use Rattle.std.specs.Result.{IsErrAnd}
+use Rattle.refused.specs.declared.Refusal.{Refusal}
+use Rattle.refused.specs.declared.Refusal.TheVariants as refusal
+use Rattle.refused.specs.Numbers.{number_of}
+use Rattle.refused.proofs.Numbers.{positive}
 use Rattle.combiner.specs.declared.Combiner.{Combiner}
 use Rattle.combiner_resolved.specs.Resolved.{mixed_by, resolved_of}
 use Rattle.raster_pixel.specs.declared.Geometry.{Geometry}
@@ -26,14 +32,10 @@ use Rattle.raster_emitted.proofs.Colorless.{geometry-masks}
 use Rattle.frame.specs.Checks.{or_else}
 use Rattle.frame.specs.Frame.{Frame}
 use Rattle.frame_paint.specs.Paint.{Mixed}
-use Rattle.frame_draw.specs.declared.Accepted.{Accepted}
-use Rattle.frame_draw.specs.declared.Accepted.TheVariants as accept
-use Rattle.frame_draw.specs.Answered.{plan_by}
 use Rattle.frame_draw.specs.Draw.{DrawArgs, Plan, plan_of, emitted_by, answer_by, draw_answer}
-use Rattle.frame_draw.proofs.Plans.{number_of, accepted_plan, drawable}
+use Rattle.frame_draw.proofs.Plans.{drawable}
 use Rattle.frame_emitted.specs.declared.Emitted.{Emitted}
-use Rattle.frame_emitted.specs.declared.Emitted.TheVariants as emitted
-use Rattle.frame_emitted.specs.declared.Listed.TheVariants as listed
+use Rattle.frame_emitted.specs.declared.Listed.{Listed}
 use Rattle.frame_emitted.specs.Emitted.{PixelAnswer, without_pixel, pixel_of, pixel_means, NumberedPixel, pixel_by, emitted_answer}
 use Rattle.frame_emitted.specs.Run.{pixels_means, NumberedPixels, singles, pixels_by, emitted_run}
 use Rattle.frame_emitted.specs.Places.{largest_count, FoundAt, ListedAll}
@@ -43,57 +45,52 @@ use Rattle.frame_emitted.proofs.Ends.{pixel_there}
 abbrev masks_of : DrawArgs → ℕ → ℕ → List Masked
 masks_of d w h = geometry_masks d.mode.antialias d.cull d.scissor w h d.vertices d.present d.indices d.geometry
 
-module _ (d : DrawArgs) (w h : ℕ) (f : Frame) (r : Accepted) (e : plan_by d w h r ≡ plan_of d w h f) where
+module _ (d : DrawArgs) (w h : ℕ) (f : Frame) where
   -- ---- turned away
-  module _ {n : ℕ} (er : r ≡ accept.Refused n) where
-    refused_plan : Plan.refuse n ≡ plan_of d w h f
-    refused_plan = ap (plan_by d w h) (sym er) ∙ e
-
-    pub pixel_refused : (k : ℕ) → (pixel_means (emitted.Refused n) ≡ emitted_answer d w h f k) × NumberedPixel (emitted.Refused n)
+  module _ (e : Refusal) (refused_plan : Plan.refuse (number_of e) ≡ plan_of d w h f) where
+    pub pixel_refused :
+        (k : ℕ) (r : Result (Option Emitted) Refusal) → IsErrAnd r (λ (x : Refusal). x ≡ e) → (pixel_means r ≡ emitted_answer d w h f k) × NumberedPixel r
     unfolding emitted_answer
-    pixel_refused k = (ap (λ (p : Plan). pixel_by p k) refused_plan, number_of d w h f refused_plan)
+    pixel_refused k (Ok o) q = absurd q
+    pixel_refused k (Err x) q = (ap (λ (x : Refusal). without_pixel (number_of x)) q ∙ ap (λ (p : Plan). pixel_by p k) refused_plan, positive x)
 
     pub run_refused :
-        (first : ℕ) (ps ms : List ℕ) → (pixels_means (listed.Refused n) ps ms ≡ emitted_run d w h f first ps ms) × NumberedPixels (listed.Refused n)
+        (first : ℕ) (ps ms : List ℕ) (r : Result Listed Refusal) → IsErrAnd r (λ (x : Refusal). x ≡ e)
+        → (pixels_means r ps ms ≡ emitted_run d w h f first ps ms) × NumberedPixels r
     unfolding emitted_run draw_answer
-    run_refused first ps ms =
-        let l = number_of d w h f refused_plan in (
-          go n l (cond (eqb (length ps) (length ms)) 0 20) _
-              ∙ (λ i. pixels_by (or_else (answer_by (refused_plan i)).number (cond (eqb (length ps) (length ms)) 0 20)) first (answer_by (refused_plan i)).pixels (singles d w h f first (length ms)) ps ms),
-          l,
-        )
+    run_refused first ps ms (Ok l) q = absurd q
+    run_refused first ps ms (Err x) q = (
+      ap (λ (x : Refusal). pixels_means (Err x) ps ms) q
+          ∙ go (number_of e) (positive e) (cond (eqb (length ps) (length ms)) 0 20) _
+          ∙ (λ i. pixels_by (or_else (answer_by (refused_plan i)).number (cond (eqb (length ps) (length ms)) 0 20)) first (answer_by (refused_plan i)).pixels (singles d w h f first (length ms)) ps ms),
+      positive x,
+    )
       where
         go :
             (n : ℕ) → 1 ≤ n → (next : ℕ) (answers : List PixelAnswer)
-            → pixels_means (listed.Refused n) ps ms ≡ pixels_by (or_else n next) first 0 answers ps ms
+            → record { number = n; listed = 0; emitted = 0; pixels = ps; masks = ms } ≡ pixels_by (or_else n next) first 0 answers ps ms
         go zero l next answers = absurd (omega arith)
         go (suc n) l next answers = refl
 
   -- ---- accepted
-  module _ {x : Combiner} (er : r ≡ accept.With x) where
-    es : List Emit
+  module _ {x : Combiner} (plan : Plan.accept x (emitted_by d w h x) ≡ plan_of d w h f) where
+    abbrev es : List Emit
     es = emitted_by d w h x
 
-    plan : Plan.accept x es ≡ plan_of d w h f
-    unfolding es
-    plan = accepted_plan d w h f r e er
-
     masks_are : map masked_of es ≡ masks_of d w h
-    unfolding es
     masks_are =
-        geometry-masks x (mixed_by (resolved_of x)) (drawable d w h f r e er).0.1 d.mode d.cull d.scissor w h d.vertices d.present d.indices d.geometry
+        geometry-masks x (mixed_by (resolved_of x)) (drawable d w h f plan).0.1 d.mode d.cull d.scissor w h d.vertices d.present d.indices d.geometry
 
     few : length es ≤ largest_count
-    unfolding es
     few =
-        let y = drawable d w h f r e er in
+        let y = drawable d w h f plan in
         let z = y.1.1.0 in
         omega (arith, geometry_most d.scissor z.width_small z.height_small d.mode x d.cull d.vertices d.present d.indices d.geometry, y.0.0)
 
     -- what the code needs of the draw
     pub listable : (Sized d.scissor w h × Mixed x) × ((d.geometry ≡ Triangles → TrianglesNear d.vertices d.present d.indices) × (length (masks_of d w h) ≤ largest_count))
     listable =
-        let y = drawable d w h f r e er in (
+        let y = drawable d w h f plan in (
           (y.1.1.0, y.0.1),
           (
             λ g. admitted_near x d.vertices d.present d.indices (subst (λ (q : Geometry). admitted_of x q d.vertices d.present d.indices ≡ true) g y.1.0),
@@ -102,30 +99,29 @@ module _ (d : DrawArgs) (w h : ℕ) (f : Frame) (r : Accepted) (e : plan_by d w 
         )
 
     answer_at_lem : (k : ℕ) → pixel_of (get_or (masks_of d w h) k no_pixel) ≡ emitted_answer d w h f k
-    unfolding emitted_answer es
+    unfolding emitted_answer
     answer_at_lem k = ap (λ (l : List Masked). pixel_of (get_or l k no_pixel)) (sym masks_are) ∙ ap (λ (p : Plan). pixel_by p k) plan
 
     -- the count that `draw` would answer
     count_is : length (masks_of d w h) ≡ (draw_answer d w h f).pixels
-    unfolding draw_answer es
+    unfolding draw_answer
     count_is = ap length (sym masks_are) ∙ length-map es masked_of ∙ ap (λ (p : Plan). (answer_by p).pixels) plan
 
     pub pixel_accepted :
-        (a : Emitted) (k : ℕ) → pixel_means a ≡ pixel_of (get_or (masks_of d w h) k no_pixel) → FoundAt (masks_of d w h) k a
-        → (pixel_means a ≡ emitted_answer d w h f k) × NumberedPixel a
+        (a : Option Emitted) (k : ℕ) → pixel_means (Ok a) ≡ pixel_of (get_or (masks_of d w h) k no_pixel) → FoundAt (masks_of d w h) k a
+        → (pixel_means (Ok a) ≡ emitted_answer d w h f k) × NumberedPixel (Ok a)
     pixel_accepted a k p q = let e = p ∙ answer_at_lem k in (e, right a e q)
       where
-        right : (a : Emitted) → pixel_means a ≡ emitted_answer d w h f k → FoundAt (masks_of d w h) k a → NumberedPixel a
-        right (emitted.Pixel p m) e q =
+        right : (a : Option Emitted) → pixel_means (Ok a) ≡ emitted_answer d w h f k → FoundAt (masks_of d w h) k a → NumberedPixel (Ok a)
+        right (Some p) e q =
             let t = pixel_there d w h f k (omega (arith, count_is)) in
             omega (arith, t.1, ap (λ (x : PixelAnswer). x.mask) e)
-        right emitted.Past e q = tt
-        right (emitted.Refused n) e q = absurd q
+        right None e q = tt
 
     -- slices of two lengths
     pub run_unequal :
         (first : ℕ) (ps ms : List ℕ) → (length ps ≡ length ms → ⊥)
-        → (pixels_means (listed.Refused 20) ps ms ≡ emitted_run d w h f first ps ms) × NumberedPixels (listed.Refused 20)
+        → (pixels_means (Err refusal.Slots) ps ms ≡ emitted_run d w h f first ps ms) × NumberedPixels (Err refusal.Slots)
     unfolding emitted_run draw_answer
     run_unequal first ps ms n = (
       (λ i. pixels_by (cond (sym (ne_eqb (length ps) (length ms) n) i) 0 20) first (length es) (singles d w h f first (length ms)) ps ms)
@@ -155,7 +151,7 @@ module _ (d : DrawArgs) (w h : ℕ) (f : Frame) (r : Accepted) (e : plan_by d w 
 
       pub run_accepted :
           (ps : List ℕ) {m : ℕ} → length ps ≡ length ms → m ≡ min (length ms') (n - first)
-          → (pixels_means (listed.Pixels m n) ps' ms' ≡ emitted_run d w h f first ps ms) × NumberedPixels (listed.Pixels m n)
+          → (pixels_means (Ok (record { listed = m; emitted = n })) ps' ms' ≡ emitted_run d w h f first ps ms) × NumberedPixels (Ok (record { listed = m; emitted = n }))
       unfolding emitted_run draw_answer
       run_accepted ps {m} equal em =
           let count : n ≡ length es = l.count ∙ ap length (sym masks_are) ∙ length-map es masked_of in

@@ -1,19 +1,17 @@
 -- Inner vocabulary. The pixels of a draw in their slots, as the code finds them. Definitions only.
-use Rattle.std.specs.Prelude.{ℕ, ◌+◌, ◌<◌, ◌≡◌, List, length, get_or}
+use Rattle.std.specs.Prelude.{ℕ, ◌+◌, ◌<◌, ◌≡◌, List, length, get_or, Option, Some, None}
 use Rattle.raster_emitted.specs.Masked.{Masked, no_pixel}
 use Rattle.raster_emitted.specs.Listed.{slots_of, slot_at}
 use Rattle.frame_emitted.specs.declared.Emitted.{Emitted}
-use Rattle.frame_emitted.specs.declared.Emitted.TheVariants.{Pixel, Past, Refused}
 
 -- the largest count of 64 bits
 abbrev pub largest_count : ℕ
 largest_count = 18446744073709551615
 
 -- a pixel is answered only where the list has a k-th
-abbrev pub FoundAt : List Masked → ℕ → Emitted → Type 0
-FoundAt es k (Pixel p m) = k < length es
-FoundAt es k Past = Unit
-FoundAt es k (Refused n) = ⊥
+abbrev pub FoundAt : List Masked → ℕ → Option Emitted → Type 0
+FoundAt es k (Some e) = k < length es
+FoundAt es k None = Unit
 
 -- slot i has pixel first + i of the list, and zeros past the last; n is how many there are
 pub record ListedAll (es : List Masked) (first n : ℕ) (before pixels masks : List ℕ) : Type 0 where

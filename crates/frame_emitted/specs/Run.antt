@@ -1,12 +1,13 @@
 -- To be believed. A run of emitted pixels: the single answers to k = first, first + 1, .. one after the other, into lent slices for their pixels and their masks. Definitions
 -- only. Source: docs/RULES.md, Emitted pixels by themselves.
-use Rattle.std.specs.Prelude.{ℕ, zero, suc, ◌+◌, ◌-◌, ◌≤◌, min, cond, List, [], ◌∷◌, map, eqb, length}
+use Rattle.std.specs.Prelude.{ℕ, zero, suc, ◌+◌, ◌-◌, ◌≤◌, min, cond, List, [], ◌∷◌, map, eqb, length, Result, Ok, Err}
+use Rattle.refused.specs.declared.Refusal.{Refusal}
+use Rattle.refused.specs.Numbers.{number_of}
 use Rattle.raster_pixel.specs.Parts.{from}
 use Rattle.frame.specs.Checks.{or_else}
 use Rattle.frame.specs.Frame.{Frame}
 use Rattle.frame_draw.specs.Draw.{DrawArgs, draw_answer}
 use Rattle.frame_emitted.specs.declared.Listed.{Listed}
-use Rattle.frame_emitted.specs.declared.Listed.TheVariants.{Pixels, Refused}
 use Rattle.frame_emitted.specs.Emitted.{PixelAnswer, emitted_answer}
 
 -- the number, how many slots have a pixel, how many pixels the draw emits, and the two slices afterwards
@@ -17,14 +18,14 @@ pub record PixelsAnswer : Type 0 where
   pub pixels : List ℕ
   pub masks : List ℕ
 
-abbrev pub pixels_means : Listed → List ℕ → List ℕ → PixelsAnswer
-pixels_means (Pixels n m) ps ms = record { number = 0; listed = n; emitted = m; pixels = ps; masks = ms }
-pixels_means (Refused k) ps ms = record { number = k; listed = 0; emitted = 0; pixels = ps; masks = ms }
+abbrev pub pixels_means : Result Listed Refusal → List ℕ → List ℕ → PixelsAnswer
+pixels_means (Ok l) ps ms = record { number = 0; listed = l.listed; emitted = l.emitted; pixels = ps; masks = ms }
+pixels_means (Err e) ps ms = record { number = number_of e; listed = 0; emitted = 0; pixels = ps; masks = ms }
 
 -- a refusal's number is not 0
-abbrev pub NumberedPixels : Listed → Type 0
-NumberedPixels (Pixels n m) = Unit
-NumberedPixels (Refused k) = 1 ≤ k
+abbrev pub NumberedPixels : Result Listed Refusal → Type 0
+NumberedPixels (Ok l) = Unit
+NumberedPixels (Err e) = 1 ≤ number_of e
 
 -- the single answers to k = first up to first + n
 abbrev pub singles : DrawArgs → ℕ → ℕ → Frame → ℕ → ℕ → List PixelAnswer

@@ -2,7 +2,7 @@
 // nothing is drawn.
 #![tactic(auto)]
 
-ghost use Rattle.std.specs.Prelude.{◌≡◌, ◌+◌, ◌≤◌, min, length, get_or};
+ghost use Rattle.std.specs.Prelude.{◌≡◌, ◌≤◌, length, get_or, Ok};
 ghost use Rattle.raster_pixel.specs.declared.Geometry.TheVariants.{Triangles};
 ghost use Rattle.raster_pixel.specs.Area.{Sized};
 ghost use Rattle.raster_pixel.specs.Near.{TrianglesNear};
@@ -18,40 +18,24 @@ ghost use Rattle.frame_emitted.specs.Run.{pixels_means, emitted_run, NumberedPix
 ghost use Rattle.frame_emitted.specs.Places.{largest_count, FoundAt, ListedAll};
 
 use combiner::Combiner;
-use frame_draw::{Accepted, Engine};
+use frame_draw::Engine;
 use raster_emitted::slots::Window;
 use raster_pixel::{Geometry, Scissor};
+use refused::Refusal;
 use state::{CombinerUniform, RenderMode};
 
-// The k-th emitted pixel and its mask; or there is none, or the draw is turned away.
-#[derive(Clone, Copy)]
-pub enum Emitted {
-    Pixel(u32, u8),
-    Past,
-    Refused(u8),
+// An emitted pixel and its mask.
+#[derive(Clone, Copy, Debug, PartialEq, Eq)]
+pub struct Emitted {
+    pub pixel: u32,
+    pub mask: u8,
 }
 
-// How many slots have a pixel, and how many pixels the draw emits; or why it is turned away.
-#[derive(Clone, Copy)]
-pub enum Listed {
-    Pixels(u64, u64),
-    Refused(u8),
-}
-
-// The number of a run whose slices have not one length.
-const UNEQUAL: u8 = 20;
-
-// The largest count of 64 bits; no draw emits as many pixels.
-const LARGEST: u64 = 18446744073709551615;
-
-// The count at which pixel k has been passed.
-fn count_past(k: u64) -> u64
-    ensures { result ≡ min largest_count (k + 1) }
-{
-    if k == LARGEST {
-        return LARGEST;
-    }
-    k + 1
+// How many slots have a pixel, and how many pixels the draw emits.
+#[derive(Clone, Copy, Debug, PartialEq, Eq)]
+pub struct Listed {
+    pub listed: u64,
+    pub emitted: u64,
 }
 
 // The pixels of a draw whose triangles are near: how many there are, at most the window's limit, and those of the window in their slots.
@@ -98,7 +82,7 @@ fn list_by(
     }
 }
 
-// Pixel k of a draw whose triangles are near, in a slot of its own.
+// Pixel k of a draw whose triangles are near, in a slot of its own, if the draw emits as many.
 fn pixel_at(
     engine: Engine,
     k: u64,
@@ -112,18 +96,18 @@ fn pixel_at(
     vertices: &[f32],
     present: &[u8],
     indices: &[u32],
-) -> Emitted
+) -> Option<Emitted>
     requires sized { Sized scissor width height × Mixed combiner }
     requires near { geometry ≡ Triangles → TrianglesNear vertices.now present.now indices.now }
     requires few { length (geometry_masks mode.antialias cull scissor width height vertices.now present.now indices.now geometry) ≤ largest_count }
-    ensures result_value { pixel_means result ≡ pixel_of (get_or (geometry_masks mode.antialias cull scissor width height vertices.now present.now indices.now geometry) k no_pixel) }
+    ensures result_value { pixel_means (Ok result) ≡ pixel_of (get_or (geometry_masks mode.antialias cull scissor width height vertices.now present.now indices.now geometry) k no_pixel) }
     ensures found_at { FoundAt (geometry_masks mode.antialias cull scissor width height vertices.now present.now indices.now geometry) k result }
 {
     let mut pixels = [0u32; 1];
     let mut masks = [0u8; 1];
     let window = Window {
         first: k,
-        limit: count_past(k),
+        limit: k.saturating_add(1),
     };
     let count = list_by(
         engine,
@@ -142,9 +126,12 @@ fn pixel_at(
         indices,
     );
     if count <= k {
-        return Emitted::Past;
+        return None;
     }
-    Emitted::Pixel(pixels[0], masks[0])
+    Some(Emitted {
+        pixel: pixels[0],
+        mask: masks[0],
+    })
 }
 
 // The k-th pixel that a draw emits, from 0, and its mask: numbers 1 to 7 are asked as `draw` asks them. Nothing that is lent is written.
@@ -164,23 +151,21 @@ pub fn emitted_pixel(
     present: &[u8],
     indices: &[u32],
     k: u64,
-) -> Emitted
+) -> Result<Option<Emitted>, Refusal>
     ensures answer { pixel_means result ≡ emitted_answer (draw_of mode uniform cull scissor geometry vertices present indices) width height (frame_of colors.now coverages.now marks.now) k }
     ensures number { NumberedPixel result }
 {
-    match frame_draw::accept(
+    let combiner = frame_draw::accept(
         width, height, colors, coverages, marks, mode, uniform, cull, scissor, geometry, vertices,
         present, indices,
-    ) {
-        Accepted::Refused(number) => Emitted::Refused(number),
-        Accepted::With(combiner) => pixel_at(
-            engine, k, mode, combiner, cull, scissor, width, height, geometry, vertices, present,
-            indices,
-        ),
-    }
+    )?;
+    Ok(pixel_at(
+        engine, k, mode, combiner, cull, scissor, width, height, geometry, vertices, present,
+        indices,
+    ))
 }
 
-// The pixels of a draw whose triangles are near, from `first` on, and zeros in the slots past the last: how many pixels it emits.
+// The pixels of a draw whose triangles are near, from `first` on (no draw emits as many as the limit), and zeros in the slots past the last: how many pixels it emits.
 fn list_from(
     engine: Engine,
     first: u64,
@@ -205,7 +190,7 @@ fn list_from(
 {
     let window = Window {
         first,
-        limit: LARGEST,
+        limit: u64::MAX,
     };
     let count = list_by(
         engine, pixels, masks, window, mode, combiner, cull, scissor, width, height, geometry,
@@ -236,26 +221,25 @@ pub fn emitted_pixels(
     first: u64,
     pixels: &mut [u32],
     masks: &mut [u8],
-) -> Listed
+) -> Result<Listed, Refusal>
     ensures answer { let d = draw_of mode uniform cull scissor geometry vertices present indices in
         pixels_means result (new pixels) (new masks) ≡ emitted_run d width height (frame_of colors.now coverages.now marks.now) first (old pixels) (old masks) }
     ensures number { NumberedPixels result }
 {
-    match frame_draw::accept(
+    let combiner = frame_draw::accept(
         width, height, colors, coverages, marks, mode, uniform, cull, scissor, geometry, vertices,
         present, indices,
-    ) {
-        Accepted::Refused(number) => Listed::Refused(number),
-        Accepted::With(combiner) => {
-            if pixels.len() != masks.len() {
-                return Listed::Refused(UNEQUAL);
-            }
-            let emitted = list_from(
-                engine, first, pixels, masks, mode, combiner, cull, scissor, width, height,
-                geometry, vertices, present, indices,
-            );
-            let listed = raster_emitted::slots::slots_before(first, emitted, masks.len());
-            Listed::Pixels(listed as u64, emitted)
-        }
+    )?;
+    if pixels.len() != masks.len() {
+        return Err(Refusal::Slots);
     }
+    let emitted = list_from(
+        engine, first, pixels, masks, mode, combiner, cull, scissor, width, height, geometry,
+        vertices, present, indices,
+    );
+    let listed = raster_emitted::slots::slots_before(first, emitted, masks.len());
+    Ok(Listed {
+        listed: listed as u64,
+        emitted,
+    })
 }
