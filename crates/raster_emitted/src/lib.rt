@@ -156,7 +156,7 @@ fn list_rectangle(
         window,
         0,
         antialias,
-        sides.outline(),
+        raster_rectangle::outline(sides),
         scissor,
         width,
         height,

@@ -1,7 +1,7 @@
 -- To be believed. Which samples of a pixel a rectangle holds. From writeback.rs `rasterize`. The pattern is the RDP's coverage: of the 4 by 4
 -- places of a pixel every second one is a sample, as on a checkerboard (N64brew, Reality Display Processor; Nintendo 64
 -- Programming Manual, coverage). Here row `sub` of four has a left sample, k = 0, and a right one, k = 1. Definitions only.
-use Rattle.std.specs.Prelude.{ℕ, ◌+◌, ◌-◌, ◌*◌, ◌%◌, ◌^◌, Bool, false, cond, ◌&&◌, negsuc, Float}
+use Rattle.std.specs.Prelude.{ℕ, ◌+◌, ◌-◌, ◌*◌, ◌%◌, ◌^◌, Bool, false, ◌&&◌, negsuc, Float, if◌then◌else◌}
 use Rattle.std.specs.Float.{fin}
 use Rattle.std.specs.Float.Ieee.{le, lt}
 use Rattle.raster_rectangle.specs.declared.Sides.{Sides}
@@ -28,7 +28,7 @@ inside_of s px py = within_of s.left s.right px && within_of s.top s.bottom py
 
 -- a sample's bit, where the rectangle holds it: row 0's left sample has bit 7, and row 3's right one bit 0
 unfoldable pub sample_bit : Sides → ℕ → ℕ → ℕ → ℕ → ℕ
-sample_bit s x y sub k = cond (inside_of s (sample_x x sub k) (sample_y y sub)) (2 ^ (7 - sub * 2 - k)) 0
+sample_bit s x y sub k = if inside_of s (sample_x x sub k) (sample_y y sub) then 2 ^ (7 - sub * 2 - k) else 0
 
 -- a row's two bits
 unfoldable pub row_bits : Sides → ℕ → ℕ → ℕ → ℕ

@@ -64,23 +64,21 @@ fn upright(q: u32) -> Edge
     }
 }
 
-impl Sides {
-    // The rectangle by edges, as a triangle has them: the samples between them are those that it holds.
-    pub fn outline(self) -> Tri
-        ensures { Outlines self result }
-    {
-        let major = upright(first_quarter(self.left));
-        let other = upright(quarters_before(self.right));
-        let top = first_quarter(self.top) as i64;
-        let end = quarters_before(self.bottom) as i64;
-        Tri {
-            major,
-            upper: other,
-            lower: other,
-            top,
-            mid: end,
-            end,
-            rightward: true,
-        }
+// A rectangle by edges, as a triangle has them: the samples between them are those that it holds.
+pub fn outline(sides: Sides) -> Tri
+    ensures { Outlines sides result }
+{
+    let major = upright(first_quarter(sides.left));
+    let other = upright(quarters_before(sides.right));
+    let top = first_quarter(sides.top) as i64;
+    let end = quarters_before(sides.bottom) as i64;
+    Tri {
+        major,
+        upper: other,
+        lower: other,
+        top,
+        mid: end,
+        end,
+        rightward: true,
     }
 }

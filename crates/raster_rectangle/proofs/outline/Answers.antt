@@ -4,7 +4,7 @@ use mathlib.Core.Bool.{true}
 use Rattle.raster_edge.proofs.Held.{uns}
 use Rattle.raster_rectangle.specs.Outline.{Outlines}
 use Rattle.raster_rectangle.proofs.Outlined.{outlines}
-use Rattle.raster_rectangle.proofs.Sides.outline.Goals as goal
+use Rattle.raster_rectangle.proofs.outline.Goals as goal
 
 pub returns : goal.returns
 returns c =
@@ -16,6 +16,6 @@ returns c =
     let other = c.upright-other.ensures in
     let t = (uns top.ensures.most tt).read in
     let b = (uns bottom.ensures.most tt).read in
-    subst⁻¹ (Outlines c.args.self)
+    subst⁻¹ (Outlines c.args.sides)
     (λ i. record { major = major i; upper = other i; lower = other i; top = t i; mid = b i; end = b i; rightward = true })
     (outlines _ left.result top.result right.result bottom.result left.ensures top.ensures right.ensures bottom.ensures)
