@@ -1,7 +1,7 @@
 -- To be believed. The blend of a pixel with memory, as Rust's `blend`: each operation rounded once to an f32. Definitions only.
 -- Source: N64 Programming Manual, RDP chapter, the blender; N64brew wiki, Reality Display Processor, Set Other Modes (P, A, M, B); order of the
 -- operations from writeback.rs.
-use Rattle.std.specs.Prelude.{ℕ, Bool, false, cond, pos, Float, Some, unwrap_or}
+use Rattle.std.specs.Prelude.{ℕ, Bool, false, pos, Float, Some, unwrap_or, if◌then◌else◌}
 use Rattle.std.specs.Float.{fin, binary32}
 use Rattle.std.specs.Float.Ieee.{of_int, lt, add, sub, mul, div}
 use Rattle.num_float.specs.Color.{f0, f1}
@@ -32,13 +32,13 @@ factor_b k a c = pick k (sub binary32 f1 a) (div binary32 (of_int binary32 (pos 
 
 -- a + b, and at least 1 / 255, also for a NaN
 abbrev pub divisor_of : Float → Float
-divisor_of sum = let least = div binary32 f1 f255 in cond (lt least sum) sum least
+divisor_of sum = let least = div binary32 f1 f255 in if lt least sum then sum else least
 
 -- one channel: P as it is; or p * a + m * b, over a + b unless the blend is forced
 unfoldable pub mixed_of : Bool → Bool → Float → Float → Float → Float → Float
 mixed_of stands forced p a m b =
     let sum = add binary32 (mul binary32 p a) (mul binary32 m b) in
-    cond stands p (cond forced sum (div binary32 sum (divisor_of (add binary32 a b))))
+    if stands then p else if forced then sum else div binary32 sum (divisor_of (add binary32 a b))
 
 -- three channels and the pixel's alpha, as bytes
 unfoldable pub bytes_of : Bool → Bool → Rgba → Float → Rgba → Float → Float → Rgba8

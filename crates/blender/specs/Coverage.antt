@@ -1,7 +1,7 @@
 -- To be believed. Coverage: when a pixel blends, and what memory keeps of its samples. Definitions only.
 -- Source: N64 Programming Manual, RDP chapter, the blender and the coverage unit; N64brew wiki, Reality Display Processor, Set Other Modes
 -- (force_blend, antialias_en, cvg_dest). Memory has three bits of coverage: c stands for c + 1 of the 8 samples of a pixel.
-use Rattle.std.specs.Prelude.{ℕ, ◌+◌, ◌-◌, ◌%◌, min, Bool, false, cond, not, ◌&&◌, ◌||◌, leb, Option, Some, None}
+use Rattle.std.specs.Prelude.{ℕ, ◌+◌, ◌-◌, ◌%◌, min, Bool, false, not, ◌&&◌, ◌||◌, Option, Some, None, if◌then◌else◌, nat_le}
 use Rattle.state.specs.declared.RenderMode.{RenderMode}
 use Rattle.blender.specs.Mux.{pick}
 
@@ -11,7 +11,7 @@ Coverage = Option ℕ
 
 -- n samples and the c + 1 of memory are more than 8: bit 3 of n + c, which is at most 15
 abbrev pub overflow : ℕ → ℕ → Bool
-overflow n c = leb 8 (n + c)
+overflow n c = nat_le 8 (n + c)
 
 -- an unknown coverage is taken not to overflow
 abbrev pub overflows : ℕ → Coverage → Bool
@@ -24,7 +24,7 @@ blends mode n coverage = mode.force_blend || (mode.antialias && not (overflows n
 
 -- clamp: the sum, at most full, if the pixel is blended; else the pixel's own samples
 unfoldable pub clamp_of : Bool → ℕ → ℕ → ℕ
-clamp_of blend n c = cond blend (min (n + c) 7) (n - 1)
+clamp_of blend n c = if blend then min (n + c) 7 else n - 1
 
 -- cvg_dest: clamp, wrap, full, save. A cvg_dst above 3 is as save
 unfoldable pub destination_of : RenderMode → ℕ → ℕ → ℕ

@@ -1,6 +1,6 @@
 -- Inner vocabulary. Pixels of one colour whose blend is mostly worked out once a draw. Definitions only. Source: `blend` and `color_known` of writeback.rs, of whose
 -- definitions these are parts; that they give the same bytes is proofs/Layers.
-use Rattle.std.specs.Prelude.{Bool, not, ◌&&◌, ◌||◌, eqb, Float}
+use Rattle.std.specs.Prelude.{Bool, not, ◌&&◌, ◌||◌, Float, ◌==◌}
 use Rattle.std.specs.Float.{binary32}
 use Rattle.std.specs.Float.Ieee.{mul}
 use Rattle.num_float.specs.Color.{f0}
@@ -16,7 +16,7 @@ use Rattle.blender.specs.Blend.{factor_a, factor_b, source_of}
 unfoldable pub opaque_of : RenderMode → Float → Bool
 opaque_of mode alpha =
     let x = mux_of mode.blender_mux in
-    not (eqb x.p 1) && (reject mode alpha || not (mode.force_blend || mode.antialias))
+    not (x.p == 1) && (reject mode alpha || not (mode.force_blend || mode.antialias))
 
 -- P of a pixel that is opaque
 unfoldable pub own_of : RenderMode → Combiner → Rgba → Rgba
@@ -26,13 +26,13 @@ own_of mode combiner rgba = source_of (mux_of mode.blender_mux).p combiner rgba 
 unfoldable pub layered_of : RenderMode → Float → Bool
 layered_of mode alpha =
     let x = mux_of mode.blender_mux in
-    mode.force_blend && not (eqb x.p 1) && eqb x.m 1 && not (eqb x.a 2) && not (eqb x.b 1) && not (reject mode alpha)
+    mode.force_blend && not (x.p == 1) && x.m == 1 && not (x.a == 2) && not (x.b == 1) && not (reject mode alpha)
 
 -- the blend is not forced, P is not the memory's colour, and A is not the shade's alpha
 unfoldable pub steady_of : RenderMode → Bool
 steady_of mode =
     let x = mux_of mode.blender_mux in
-    not mode.force_blend && not (eqb x.p 1) && not (eqb x.a 2)
+    not mode.force_blend && not (x.p == 1) && not (x.a == 2)
 
 -- P times A, and B
 unfoldable pub layer_of : RenderMode → Combiner → Rgba → Layer

@@ -1,6 +1,6 @@
 -- To be believed. The C interface's plain values and the library's types: the case of an enum that a number stands for, in the order of the declarations of the Rust
 -- (hle/blender.rs, hle/combiner.rs), and structs field by field. Definitions only.
-use Rattle.std.specs.Prelude.{ℕ, ◌/◌, ◌%◌, Bool, true, false, List, [], ◌∷◌, get_or, Option, Some, None}
+use Rattle.std.specs.Prelude.{ℕ, ◌/◌, ◌%◌, Bool, true, false, List, [], ◌∷◌, Option, Some, None, slice_index_or, slice_index}
 use Rattle.state.specs.declared.AlphaCompare.{AlphaCompare}
 use Rattle.state.specs.declared.BlendClass.{BlendClass}
 use Rattle.state.specs.declared.ZMode.{ZMode}
@@ -29,7 +29,7 @@ use Rattle.words_pack.specs.declared.FramebufferEncoding.TheVariants as order
 
 -- the cases but the last from 0 up; every other number stands for the last
 abbrev pub numbered : {E : Type 0} → List E → E → ℕ → E
-numbered cases last n = get_or cases n last
+numbered cases last n = slice_index_or cases n last
 
 abbrev pub blend_classes : List BlendClass
 blend_classes =
@@ -110,14 +110,14 @@ mode_of m =
 unfoldable pub cycle_from : List ℕ → CycleSel
 cycle_from l =
     record {
-      ca = color_in_of (get_or l 0 0);
-      cb = color_in_of (get_or l 1 0);
-      cc = color_in_of (get_or l 2 0);
-      cd = color_in_of (get_or l 3 0);
-      aa = alpha_in_of (get_or l 4 0);
-      ab = alpha_in_of (get_or l 5 0);
-      ac = alpha_in_of (get_or l 6 0);
-      ad = alpha_in_of (get_or l 7 0);
+      ca = color_in_of (slice_index l 0);
+      cb = color_in_of (slice_index l 1);
+      cc = color_in_of (slice_index l 2);
+      cd = color_in_of (slice_index l 3);
+      aa = alpha_in_of (slice_index l 4);
+      ab = alpha_in_of (slice_index l 5);
+      ac = alpha_in_of (slice_index l 6);
+      ad = alpha_in_of (slice_index l 7);
     }
 
 -- and back

@@ -1,7 +1,7 @@
 -- To be believed. The colour that a combiner gives for a shade: the number that each selector names, and (a - b) * c + d of four of them. Definitions only.
 -- Source: the N64 Programming Manual's chapter on the color combiner, the N64brew wiki's RDP pages (Set Combine Mode), and Combiner::color of
 -- writeback.rs, which decides what a draw without textures reads: LodFraction is 1.0, Combined and CombinedAlpha are 0.0.
-use Rattle.std.specs.Prelude.{ℕ, cond, eqb, Float, Option, Some, None}
+use Rattle.std.specs.Prelude.{ℕ, Float, Option, Some, None, if◌then◌else◌, ◌==◌}
 use Rattle.num_float.specs.Color.{f0, f1, channel_of}
 use Rattle.state.specs.declared.Rgba.{Rgba}
 use Rattle.combiner_inputs.specs.declared.ColorIn.{ColorIn}
@@ -12,7 +12,7 @@ use Rattle.combiner.specs.declared.Combiner.{Combiner}
 
 -- red, green and blue by 0, 1 and 2; alpha by 3, and by what is above it
 unfoldable pub element : Rgba → ℕ → Float
-element c i = cond (eqb i 0) c.r (cond (eqb i 1) c.g (cond (eqb i 2) c.b c.a))
+element c i = if i == 0 then c.r else if i == 1 then c.g else if i == 2 then c.b else c.a
 
 -- what a colour selector names, for a combiner and a shade, in channel i. Textures, keys, noise and the conversion constants have none
 unfoldable pub color_input : Combiner → ColorIn → Rgba → ℕ → Option Float

@@ -1,6 +1,6 @@
 -- To be believed. The combiner's answers as numbers and values: for each answer, those of every case (`.._means`), and for each call its outcome on every input
 -- (`.._call`). Definitions only. Source: docs/RULES.md, the numbers; an Option is a flag and a value.
-use Rattle.std.specs.Prelude.{ℕ, Bool, true, false, cond, ◌&&◌, eqb, Option, Some, None}
+use Rattle.std.specs.Prelude.{ℕ, Bool, true, false, ◌&&◌, Option, Some, None, if◌then◌else◌, ◌==◌}
 use Rattle.num_float.specs.Color.{f0}
 use Rattle.state.specs.declared.CombinerUniform.{CombinerUniform}
 use Rattle.state.specs.declared.RenderMode.{RenderMode}
@@ -66,7 +66,7 @@ strict_means None = absent 0 0
 unfoldable pub strict_call : Combiner → Optional ℕ
 strict_call k =
     let c = color_call k full_shade in
-    cond (flat k.selectors && (c.some && is_strict c.value)) (present (strict_word c.value)) (absent 0 0)
+    if flat k.selectors && (c.some && is_strict c.value) then present (strict_word c.value) else absent 0 0
 
 -- ---- Combiner::new: for a draw without textures, in a plain mode, whose colour there is. A draw without a combiner is turned away with number 6
 abbrev pub made_means : Option Combiner → Optional Combiner
@@ -76,4 +76,4 @@ made_means None = absent 6 no_combiner
 unfoldable pub new_call : CombinerUniform → RenderMode → Optional Combiner
 new_call u m =
     let k = combiner_of u in
-    cond (eqb u.tex_enable 0 && plain m && (color_call k full_shade).some) (present k) (absent 6 no_combiner)
+    if u.tex_enable == 0 && plain m && (color_call k full_shade).some then present k else absent 6 no_combiner

@@ -1,6 +1,6 @@
 -- To be believed. Which draws have a combiner, and which one. Definitions only.
 -- Source: Combiner::new of writeback.rs. The fields are those of Set Other Modes and Set Combine Mode (N64 Programming Manual, RDP chapters).
-use Rattle.std.specs.Prelude.{Bool, true, false, cond, not, ◌&&◌, ◌||◌, eqb, get_or, Option, Some, None}
+use Rattle.std.specs.Prelude.{Bool, true, false, not, ◌&&◌, ◌||◌, Option, Some, None, if◌then◌else◌, ◌==◌, slice_index_or}
 use Rattle.std.specs.Float.{nan}
 use Rattle.state.specs.declared.AlphaCompare.{AlphaCompare}
 use Rattle.state.specs.declared.AlphaCompare.TheVariants as compare
@@ -29,7 +29,7 @@ blends_color blend.DualSrc = false
 -- one-cycle mode, and none of: depth test and update, alpha tests, alpha and coverage mixed, the class BlendColor, colour on coverage overflow alone
 unfoldable pub plain : RenderMode → Bool
 plain m =
-    eqb m.cycle_type 0
+    m.cycle_type == 0
     && not ((m.z_test || m.z_write)
     || (m.cvg_x_alpha || compares m.alpha_compare || m.alpha_cvg_select)
     || (blends_color m.blend_class || m.color_on_coverage))
@@ -43,7 +43,7 @@ combiner_of u =
       env = u.env;
       blend = u.blend_color;
       fog = u.fog_color;
-      lod = get_or u.lod_params 2 nan;
+      lod = slice_index_or u.lod_params 2 nan;
     }
 
 -- a combiner that gives a colour
@@ -53,4 +53,4 @@ if_colored k None = None
 
 -- a draw without textures, in a plain mode, whose selectors are all known
 unfoldable pub new_of : CombinerUniform → RenderMode → Option Combiner
-new_of u m = cond (eqb u.tex_enable 0 && plain m) (if_colored (combiner_of u) (color_of (combiner_of u) full_shade)) None
+new_of u m = if u.tex_enable == 0 && plain m then if_colored (combiner_of u) (color_of (combiner_of u) full_shade) else None

@@ -1,7 +1,7 @@
 -- To be believed. The colour word of a combiner that gives one constant colour, each channel of it empty or full. Definitions only.
 -- Source: Combiner::strict_color of writeback.rs; the word has five bits each of red, green and blue from the top (N64 Programming Manual, 16-bit
 -- RGBA frame buffer).
-use Rattle.std.specs.Prelude.{ℕ, ◌+◌, Bool, false, cond, ◌&&◌, ◌||◌, List, [], ◌∷◌, eqb, Float, Option, Some, None}
+use Rattle.std.specs.Prelude.{ℕ, ◌+◌, Bool, false, ◌&&◌, ◌||◌, List, [], ◌∷◌, Float, Option, Some, None, if◌then◌else◌, ◌==◌}
 use Rattle.std.specs.Float.Ieee.{eq}
 use Rattle.num_float.specs.Color.{f0, f1}
 use Rattle.state.specs.declared.Rgba.{Rgba}
@@ -17,7 +17,7 @@ use Rattle.combiner.specs.Combine.{color_of, full_shade}
 -- whether x is one of a list, by a numbering
 abbrev pub among : {E : Type 0} → (E → ℕ) → List E → E → Bool
 among number [] x = false
-among number (y ∷ ys) x = eqb (number x) (number y) || among number ys x
+among number (y ∷ ys) x = number x == number y || among number ys x
 
 -- Zero alone: Combined is also read as 0.0, and does not count
 unfoldable pub zero_color : ColorIn → Bool
@@ -45,7 +45,7 @@ pure v = eq v f0 || eq v f1
 
 -- the bits of a channel, if it is full
 unfoldable pub filled : Float → ℕ → ℕ
-filled v bits = cond (eq v f1) bits 0
+filled v bits = if eq v f1 then bits else 0
 
 -- a colour that is opaque, with every channel empty or full, and its word
 abbrev pub is_strict : Rgba → Bool
@@ -55,11 +55,11 @@ abbrev pub strict_word : Rgba → ℕ
 strict_word c = filled c.r 0xf800 + filled c.g 0x07c0 + filled c.b 0x003e
 
 unfoldable pub word_of : Rgba → Option ℕ
-word_of c = cond (is_strict c) (Some (strict_word c)) None
+word_of c = if is_strict c then Some (strict_word c) else None
 
 abbrev pub word_of_color : Option Rgba → Option ℕ
 word_of_color (Some c) = word_of c
 word_of_color None = None
 
 unfoldable pub strict_of : Combiner → Option ℕ
-strict_of k = cond (flat k.selectors) (word_of_color (color_of k full_shade)) None
+strict_of k = if flat k.selectors then word_of_color (color_of k full_shade) else None

@@ -1,7 +1,7 @@
 -- To be believed. The RDP command Set Combine Mode (0x3C): which input each slot of the colour combiner reads in each cycle. Definitions only.
 -- Sources: Nintendo 64 Programming Manual, the colour combiner, and gbi.h's gsDPSetCombineLERP; N64brew wiki, Reality Display
 -- Processor/Commands, 0x3C. A channel is (a - b) * c + d, in the papers (sub_a - sub_b) * mul + add.
-use Rattle.std.specs.Prelude.{ℕ, ◌+◌, ◌-◌, ◌*◌, ◌%◌, ◌^◌, List, [], ◌∷◌, get_or}
+use Rattle.std.specs.Prelude.{ℕ, ◌+◌, ◌-◌, ◌*◌, ◌%◌, ◌^◌, List, [], ◌∷◌, slice_index_or}
 use Rattle.num_bits.specs.Field.{field}
 use Rattle.combiner_inputs.specs.declared.ColorIn.{ColorIn}
 use Rattle.combiner_inputs.specs.declared.ColorIn.TheVariants as color
@@ -45,7 +45,7 @@ alpha_c =
 
 -- what the lowest width bits of idx name: an entry of the table, or none past its end
 unfoldable pub select : {E : Type 0} → List E → E → ℕ → ℕ → E
-select table none width idx = get_or table (idx % 2 ^ width) none
+select table none width idx = slice_index_or table (idx % 2 ^ width) none
 
 -- ---- where the fields stand
 

@@ -1,5 +1,5 @@
 -- Inner vocabulary. What passes over marks alone, or over coverages alone, tell of number 3. Definitions only.
-use Rattle.std.specs.Prelude.{ℕ, ◌≡◌, Bool, true, false, not, ◌&&◌, List, [], ◌∷◌, leb}
+use Rattle.std.specs.Prelude.{ℕ, ◌≡◌, Bool, true, false, not, ◌&&◌, List, [], ◌∷◌, nat_le}
 use Rattle.frame_pixel.specs.Marks.{highest_mark, coverage_marked}
 use Rattle.frame.specs.declared.refusal.Seen.{Seen}
 use Rattle.frame.specs.declared.refusal.Finding.{Finding}
@@ -12,7 +12,7 @@ every test [] = true
 every test (n ∷ ns) = test n && every test ns
 
 abbrev pub at_most : ℕ → ℕ → Bool
-at_most most n = leb n most
+at_most most n = nat_le n most
 
 abbrev pub coverage_unmarked : ℕ → Bool
 coverage_unmarked mark = not (coverage_marked mark)

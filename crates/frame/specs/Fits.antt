@@ -1,5 +1,5 @@
 -- Inner vocabulary. A frame that numbers 1 to 3 let through, and a pixel as far as it is known. Definitions only.
-use Rattle.std.specs.Prelude.{ℕ, ◌+◌, ◌*◌, ◌≤◌, ◌≡◌, Bool, cond, List, length, get_or, set, Option, Some, None}
+use Rattle.std.specs.Prelude.{ℕ, ◌+◌, ◌*◌, ◌≤◌, ◌≡◌, Bool, List, length, set, Option, Some, None, if◌then◌else◌, slice_index}
 use Rattle.frame_pixel.specs.declared.Pixel.{Pixel}
 use Rattle.frame_pixel.specs.Marks.{highest_mark, color_marked, coverage_marked, coverage_of}
 use Rattle.blender.specs.Coverage.{Coverage}
@@ -15,28 +15,28 @@ pub record Long (f : Frame) : Type 0 where
 
 -- what is loaded of a pixel: its colour bytes
 abbrev pub colors_at : List ℕ → ℕ → Colors
-colors_at colors p = record { red = get_or colors (3 * p) 0; green = get_or colors (3 * p + 1) 0; blue = get_or colors (3 * p + 2) 0 }
+colors_at colors p = record { red = slice_index colors (3 * p); green = slice_index colors (3 * p + 1); blue = slice_index colors (3 * p + 2) }
 
 -- three bytes as far as they are known: else they stand as 0
 abbrev pub colors_if : Bool → Colors → Colors
-colors_if known c = record { red = cond known c.red 0; green = cond known c.green 0; blue = cond known c.blue 0 }
+colors_if known c = record { red = if known then c.red else 0; green = if known then c.green else 0; blue = if known then c.blue else 0 }
 
 -- a frame of n pixels that numbers 1 to 3 let through: slices of their lengths, no mark above the highest, and no known coverage above 7
 pub record Fit (n : ℕ) (f : Frame) : Type 0 where
   pub colors : length f.colors ≡ 3 * n
   pub coverages : length f.coverages ≡ n
   pub marks : length f.marks ≡ n
-  pub low : (p : ℕ) → get_or f.marks p 0 ≤ highest_mark
-  pub sound : (p : ℕ) → or_zero (coverage_of (get_or f.marks p 0) (get_or f.coverages p 0)) ≤ 7
+  pub low : (p : ℕ) → slice_index f.marks p ≤ highest_mark
+  pub sound : (p : ℕ) → or_zero (coverage_of (slice_index f.marks p) (slice_index f.coverages p)) ≤ 7
 
 -- an unmarked byte stands as 0
 abbrev pub known_pixel : Pixel → Pixel
 known_pixel x =
     record {
-      red = cond (color_marked x.mark) x.red 0;
-      green = cond (color_marked x.mark) x.green 0;
-      blue = cond (color_marked x.mark) x.blue 0;
-      coverage = cond (coverage_marked x.mark) x.coverage 0;
+      red = if color_marked x.mark then x.red else 0;
+      green = if color_marked x.mark then x.green else 0;
+      blue = if color_marked x.mark then x.blue else 0;
+      coverage = if coverage_marked x.mark then x.coverage else 0;
       mark = x.mark;
     }
 
@@ -57,4 +57,4 @@ stored_at f p color coverage mark =
 
 -- and as far as its mark says that it is known
 abbrev pub put_known : Frame → ℕ → Pixel → Frame
-put_known f p x = stored_at f p (cond (color_marked x.mark) (Some (rule_f4 x)) None) (coverage_at x) x.mark
+put_known f p x = stored_at f p (if color_marked x.mark then Some (rule_f4 x) else None) (coverage_at x) x.mark

@@ -1,5 +1,5 @@
 -- To be believed. The frame: three lent lists, and its pixels. Definitions only. Source: docs/RULES.md, The frame.
-use Rattle.std.specs.Prelude.{ℕ, ◌+◌, ◌*◌, List, get_or, set}
+use Rattle.std.specs.Prelude.{ℕ, ◌+◌, ◌*◌, List, set, slice_index}
 use Rattle.frame_pixel.specs.declared.Pixel.{Pixel}
 
 -- colour bytes, coverages and marks
@@ -15,11 +15,11 @@ frame_of colors coverages marks = record { colors = colors; coverages = coverage
 abbrev pub pixel_at : Frame → ℕ → Pixel
 pixel_at f p =
     record {
-      red = get_or f.colors (3 * p) 0;
-      green = get_or f.colors (3 * p + 1) 0;
-      blue = get_or f.colors (3 * p + 2) 0;
-      coverage = get_or f.coverages p 0;
-      mark = get_or f.marks p 0;
+      red = slice_index f.colors (3 * p);
+      green = slice_index f.colors (3 * p + 1);
+      blue = slice_index f.colors (3 * p + 2);
+      coverage = slice_index f.coverages p;
+      mark = slice_index f.marks p;
     }
 
 abbrev pub put_pixel : Frame → ℕ → Pixel → Frame

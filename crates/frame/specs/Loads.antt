@@ -1,15 +1,15 @@
 -- To be believed. What may be loaded of a pixel: a colour or coverage byte only where the mark says that it is known. Definitions only. Source: docs/RULES.md, The frame.
-use Rattle.std.specs.Prelude.{ℕ, ◌+◌, ◌*◌, ◌<◌, ◌≤◌, ◌≡◌, true, List, length, get_or}
+use Rattle.std.specs.Prelude.{ℕ, ◌+◌, ◌*◌, ◌<◌, ◌≤◌, ◌≡◌, true, List, length, slice_index}
 use Rattle.frame_pixel.specs.Marks.{color_marked, coverage_marked, coverage_of}
 use Rattle.blender.specs.Blend.{or_zero}
 use Rattle.frame.specs.Frame.{Frame}
 
 -- ---- what pixel p's mark says
 abbrev pub ColorKnown : List ℕ → ℕ → Type 0
-ColorKnown marks p = color_marked (get_or marks p 0) ≡ true
+ColorKnown marks p = color_marked (slice_index marks p) ≡ true
 
 abbrev pub CoverageKnown : List ℕ → ℕ → Type 0
-CoverageKnown marks p = coverage_marked (get_or marks p 0) ≡ true
+CoverageKnown marks p = coverage_marked (slice_index marks p) ≡ true
 
 -- ---- its bytes are there where they are known. Where p is unmarked this says nothing, so that no load before the question can be shown to be in bounds
 abbrev pub ColorThere : List ℕ → List ℕ → ℕ → Type 0
@@ -23,4 +23,4 @@ pub record Loadable (f : Frame) (p : ℕ) : Type 0 where
   pub mark : p < length f.marks
   pub color : ColorThere f.colors f.marks p
   pub coverage : CoverageThere f.coverages f.marks p
-  pub sound : or_zero (coverage_of (get_or f.marks p 0) (get_or f.coverages p 0)) ≤ 7
+  pub sound : or_zero (coverage_of (slice_index f.marks p) (slice_index f.coverages p)) ≤ 7

@@ -1,6 +1,6 @@
 // The loads of colour and coverage bytes. A byte of these two slices is loaded by `color` or by `coverage` and nowhere else. Both ask that the mark of the
 // byte's pixel says that it is known: their `marks` are there for that need alone.
-ghost use Rattle.std.specs.Prelude.{◌≡◌, cond, ◌<◌, length, get_or};
+ghost use Rattle.std.specs.Prelude.{◌≡◌, ◌<◌, length, if◌then◌else◌, slice_index};
 ghost use Rattle.frame_pixel.specs.Marks.{color_marked, coverage_marked};
 ghost use Rattle.frame.specs.Loads.{ColorKnown, CoverageKnown, ColorThere, CoverageThere};
 ghost use Rattle.frame.specs.Fits.{colors_at, colors_if};
@@ -26,7 +26,7 @@ pub fn color(colors: &[u8], marks: &[u8], pixel: usize) -> Colors
 pub fn coverage(coverages: &[u8], marks: &[u8], pixel: usize) -> u8
     requires coverage_known { CoverageKnown marks.now pixel }
     requires coverage_there { CoverageThere coverages.now marks.now pixel }
-    ensures { result ≡ get_or coverages.now pixel 0 }
+    ensures { result ≡ slice_index coverages.now pixel }
 {
     coverages[pixel]
 }
@@ -35,7 +35,7 @@ pub fn coverage(coverages: &[u8], marks: &[u8], pixel: usize) -> u8
 pub fn known_color(colors: &[u8], marks: &[u8], pixel: usize) -> Colors
     requires pixel_in_bounds { pixel < length marks.now }
     requires color_there { ColorThere colors.now marks.now pixel }
-    ensures { result ≡ colors_if (color_marked (get_or marks.now pixel 0)) (colors_at colors.now pixel) }
+    ensures { result ≡ colors_if (color_marked (slice_index marks.now pixel)) (colors_at colors.now pixel) }
 {
     let mark = marks[pixel];
     let known = frame_pixel::color_marked(mark);
@@ -53,7 +53,7 @@ pub fn known_color(colors: &[u8], marks: &[u8], pixel: usize) -> Colors
 pub fn known_coverage(coverages: &[u8], marks: &[u8], pixel: usize) -> u8
     requires pixel_in_bounds { pixel < length marks.now }
     requires coverage_there { CoverageThere coverages.now marks.now pixel }
-    ensures { result ≡ cond (coverage_marked (get_or marks.now pixel 0)) (get_or coverages.now pixel 0) 0 }
+    ensures { result ≡ (if coverage_marked (slice_index marks.now pixel) then slice_index coverages.now pixel else 0) }
 {
     let mark = marks[pixel];
     let known = frame_pixel::coverage_marked(mark);

@@ -1,5 +1,5 @@
 // Why a call on the frame is turned away: numbers 1 to 3 (docs/RULES.md, The numbers), the first that holds.
-ghost use Rattle.std.specs.Prelude.{◌≡◌, true, ◌&&◌, ◌*◌, ◌<◌, ◌≤◌, eqb, length, get_or};
+ghost use Rattle.std.specs.Prelude.{◌≡◌, true, ◌&&◌, ◌*◌, ◌<◌, ◌≤◌, length, if◌then◌else◌, ◌==◌, slice_index};
 ghost use Rattle.frame_pixel.specs.Marks.{highest_mark, coverage_marked};
 ghost use Rattle.frame.specs.Frame.{frame_of};
 ghost use Rattle.frame.specs.Loads.{CoverageThere};
@@ -50,7 +50,7 @@ fn sizes_ok(width: u32, height: u32) -> bool
 
 fn lengths_ok(colors: usize, coverages: usize, marks: usize, pixels: usize) -> bool
     requires { pixels ≤ 1048576 }
-    ensures { result ≡ (eqb colors (3 * pixels) && (eqb coverages pixels && eqb marks pixels)) }
+    ensures { result ≡ (colors == 3 * pixels && (coverages == pixels && marks == pixels)) }
 {
     colors == 3 * pixels && coverages == pixels && marks == pixels
 }
@@ -87,9 +87,9 @@ fn all_low(coverages: &[u8], marks: &[u8]) -> bool
 // An unmarked coverage is not loaded. The mark itself was checked before.
 #[tactic(auto, using(crate::proofs::Loads::mark_low))]
 fn mark_ok(coverages: &[u8], marks: &[u8], i: usize) -> bool
-    requires marked { (i < length marks.now) × (get_or marks.now i 0 ≤ highest_mark) }
+    requires marked { (i < length marks.now) × (slice_index marks.now i ≤ highest_mark) }
     requires there { CoverageThere coverages.now marks.now i }
-    ensures { result ≡ mark_ok (get_or marks.now i 0) (get_or coverages.now i 0) }
+    ensures { result ≡ mark_ok (slice_index marks.now i) (slice_index coverages.now i) }
 {
     load::known_coverage(coverages, marks, i) <= COVERAGE
 }

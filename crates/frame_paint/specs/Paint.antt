@@ -1,5 +1,5 @@
 -- Inner vocabulary. What does not turn on the pixel, worked out once a draw. Definitions only.
-use Rattle.std.specs.Prelude.{◌≡◌, true, cond, ◌||◌, eqb, Option, Some, None, unwrap_or}
+use Rattle.std.specs.Prelude.{◌≡◌, true, ◌||◌, Option, Some, None, unwrap_or, ◌==◌, if◌then◌else◌}
 use Rattle.state.specs.declared.RenderMode.{RenderMode}
 use Rattle.state.specs.declared.Rgba.{Rgba}
 use Rattle.combiner.specs.declared.Combiner.{Combiner}
@@ -17,7 +17,7 @@ pub record Prepared (paint : Paint) : Type 0 where
   pub resolved : paint.resolved ≡ resolved_of paint.combiner
   pub color : color_of paint.combiner full_shade ≡ color_value paint.color
   -- where P is not the pixel's colour
-  pub own : paint.own ≡ cond (eqb (mux_of paint.mode.blender_mux).p 0) None (Some (own_colors paint.mode paint.combiner paint.color))
+  pub own : paint.own ≡ (if (mux_of paint.mode.blender_mux).p == 0 then None else Some (own_colors paint.mode paint.combiner paint.color))
   pub full : FullOf paint.mode paint.combiner paint.color paint.full
   -- what full pixels of the colour need is enough for them
   pub even : paint.even ≡ (paint.full.layered || (steady_of paint.mode || paint.full.sure))

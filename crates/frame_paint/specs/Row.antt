@@ -1,5 +1,5 @@
 -- Inner vocabulary. What a row of a triangle or of a rectangle emits, as it is drawn: by its shades, or, where it is flat, in one colour. Definitions only.
-use Rattle.std.specs.Prelude.{◌≡◌, Bool, true, cond, ◌||◌, List, [], ◌∷◌, ℕ, ◌+◌, ◌*◌, ◌<◌, ◌≤◌, Option, Some, None}
+use Rattle.std.specs.Prelude.{◌≡◌, Bool, true, ◌||◌, List, [], ◌∷◌, ℕ, ◌+◌, ◌*◌, ◌<◌, ◌≤◌, Option, Some, None, if◌then◌else◌}
 use Rattle.std.specs.Bool.{then_some}
 use Rattle.num_float.specs.Color.{f1}
 use Rattle.state.specs.declared.Rgba.{Rgba}
@@ -23,11 +23,11 @@ use Rattle.frame_paint.specs.Pixel.{emit_of}
 -- the colour and the shade alpha of pixel x: in a flat row the one colour, and 1.0
 unfoldable pub hue_of : Resolved → Rgba → Bool → ShadeRow → ℕ → Hue
 hue_of resolved color flat row x =
-    cond flat (record { color = color; shade_alpha = f1 }) (record { color = mixed_by resolved (shade_on row x); shade_alpha = (shade_on row x).a })
+    if flat then record { color = color; shade_alpha = f1 } else record { color = mixed_by resolved (shade_on row x); shade_alpha = (shade_on row x).a }
 
 -- pixel x of row y in a frame of width w, with these samples
 unfoldable pub pixel_of : Bool → ℕ → Hue → ℕ → ℕ → ℕ → List Emit
-pixel_of antialias mask hue w y x = emits (cond (shown antialias mask) (covered mask (color_value hue.color) hue.shade_alpha) None) (y * w + x)
+pixel_of antialias mask hue w y x = emits (if shown antialias mask then covered mask (color_value hue.color) hue.shade_alpha else None) (y * w + x)
 
 -- the same between the edges e of row y
 abbrev pub row_at : Paint → Bool → ShadeRow → Edges → ℕ → ℕ → ℕ → List Emit
@@ -44,7 +44,7 @@ full_at color w y x = full_pixel color (y * w + x)
 
 -- its colour, if it is then known, by whether the memory's colour and its coverage are
 abbrev pub full_color : Full → Bool → Bool → Colors → Option Colors
-full_color full marked covered memory = cond full.layered (cond marked (Some (over_colors full.layer memory)) None) (then_some (full.sure || covered) full.own)
+full_color full marked covered memory = if full.layered then if marked then Some (over_colors full.layer memory) else None else then_some (full.sure || covered) full.own
 
 -- what is stored of it
 abbrev pub filled_at : Full → Frame → ℕ → Frame

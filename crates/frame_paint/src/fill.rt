@@ -1,5 +1,5 @@
 // A run of pixels of one colour, each with all its samples: no sample is tested, and what does not turn on the pixel was worked out before.
-ghost use Rattle.std.specs.Prelude.{◌≡◌, true, false, ◌+◌, ◌<◌, ◌≤◌, length, get_or};
+ghost use Rattle.std.specs.Prelude.{◌≡◌, true, false, ◌+◌, ◌<◌, ◌≤◌, length, if◌then◌else◌, slice_index};
 ghost use Rattle.raster_pixel.specs.Parts.{from};
 ghost use Rattle.frame_pixel.specs.Marks.{color_marked, mark_of};
 ghost use Rattle.frame.specs.Lent.{lent, before, after};
@@ -23,7 +23,7 @@ fn full_color(
 ) -> Option<Colors>
     requires pixel_in_bounds { pixel < length marks.now }
     requires color_there { ColorThere colors.now marks.now pixel }
-    ensures { result ≡ full_color full (color_marked (get_or marks.now pixel 0)) covered (colors_at colors.now pixel) }
+    ensures { result ≡ full_color full (color_marked (slice_index marks.now pixel)) covered (colors_at colors.now pixel) }
 {
     if !full.layered {
         return (full.sure | covered).then_some(full.own);

@@ -1,6 +1,6 @@
 -- Inner vocabulary. What is known of a pixel's colour ahead of the memory: one that is opaque, of whose colour the memory has no part, and one that is layered,
 -- whose colour is a sum with the memory's. Definitions only, for contracts of inner functions; that they are what the rules give is proofs/Colorings.
-use Rattle.std.specs.Prelude.{ℕ, ◌≡◌, true, cond, Float, Option, Some, None}
+use Rattle.std.specs.Prelude.{ℕ, ◌≡◌, true, Float, Option, Some, None, if◌then◌else◌}
 use Rattle.std.specs.Float.{binary32}
 use Rattle.std.specs.Float.Ieee.{add, mul}
 use Rattle.num_float.specs.Whole.{byte_of}
@@ -43,4 +43,4 @@ ColoringOf mode k color Blended = Unit
 
 -- the colours after an emitted pixel, if they are then known
 abbrev pub colored_of : RenderMode → Combiner → Source → Pixel → Option Colors
-colored_of mode k s x = cond (known_after mode s x) (Some (colors_after mode k s x)) None
+colored_of mode k s x = if known_after mode s x then Some (colors_after mode k s x) else None

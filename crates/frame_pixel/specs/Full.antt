@@ -1,6 +1,6 @@
 -- Inner vocabulary. A pixel with all eight samples of a colour that is worked out ahead: what it does turns on the mark at its place, and on the memory's colour where it is
 -- layered. Definitions only; that it is what the rules give is proofs/Fulls.
-use Rattle.std.specs.Prelude.{◌≡◌, Bool, true, false, cond, ◌||◌, eqb, None, Some}
+use Rattle.std.specs.Prelude.{◌≡◌, Bool, true, false, ◌||◌, None, Some, if◌then◌else◌, ◌==◌}
 use Rattle.state.specs.declared.RenderMode.{RenderMode}
 use Rattle.state.specs.declared.Rgba.{Rgba}
 use Rattle.combiner.specs.declared.Combiner.{Combiner}
@@ -16,7 +16,7 @@ use Rattle.frame_pixel.specs.Coloring.{own_colors, over_colors}
 -- F5 makes it 7
 abbrev pub is_full : Coverage → Bool
 is_full None = false
-is_full (Some c) = eqb c 7
+is_full (Some c) = c == 7
 
 -- what is worked out ahead for the full pixels of a colour
 pub record FullOf (mode : RenderMode) (k : Combiner) (color : Rgba) (full : Full) : Type 0 where
@@ -34,17 +34,17 @@ Enough mode full = (full.layered || (steady_of mode || full.sure)) ≡ true
 
 -- whether its colour is then known, its colours if so, and its coverage
 abbrev pub full_known : Full → Pixel → Bool
-full_known full x = cond full.layered (color_marked x.mark) (full.sure || coverage_marked x.mark)
+full_known full x = if full.layered then color_marked x.mark else full.sure || coverage_marked x.mark
 
 abbrev pub full_colors : Full → Pixel → Colors
-full_colors full x = cond full.layered (over_colors full.layer (rule_f4 x)) full.own
+full_colors full x = if full.layered then over_colors full.layer (rule_f4 x) else full.own
 
 abbrev pub full_coverage : Bool → Coverage → Coverage
-full_coverage fills coverage = cond fills (Some 7) coverage
+full_coverage fills coverage = if fills then Some 7 else coverage
 
 -- a full pixel whose colours are stored where they are known
 unfoldable pub full_with : Bool → Bool → Colors → Pixel → Pixel
-full_with known fills new x = assembled known (cond known new (rule_f4 x)) (full_coverage fills (coverage_at x)) x.coverage
+full_with known fills new x = assembled known (if known then new else rule_f4 x) (full_coverage fills (coverage_at x)) x.coverage
 
 unfoldable pub full_step : Full → Pixel → Pixel
 full_step full x = full_with (full_known full x) full.fills (full_colors full x) x

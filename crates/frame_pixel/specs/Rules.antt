@@ -1,6 +1,6 @@
 -- To be believed. Rules F1 to F5 (docs/RULES.md): what one emitted pixel does to the five bytes of its place in the frame, all on the old bytes.
 -- Definitions only. F1, F3 and F5 rest on `color_known`, `blend` and `destination` of the Rust, whose definitions are crate blender's.
-use Rattle.std.specs.Prelude.{ℕ, Bool, cond, not, ◌&&◌, pos, eqb, Float, None, Some}
+use Rattle.std.specs.Prelude.{ℕ, Bool, not, ◌&&◌, pos, Float, None, Some, if◌then◌else◌, ◌==◌}
 use Rattle.std.specs.Float.{binary32}
 use Rattle.std.specs.Float.Ieee.{of_int, div}
 use Rattle.num_float.specs.Color.{f0}
@@ -33,7 +33,7 @@ unit byte = div binary32 (of_int binary32 (pos byte)) f255
 -- the memory's colour for `blend`: zeros if it is unmarked. Its alpha goes into no blend
 unfoldable pub memory_of : Bool → Pixel → Rgba
 memory_of marked x =
-    cond marked (record { r = unit x.red; g = unit x.green; b = unit x.blue; a = f0 }) (record { r = f0; g = f0; b = f0; a = f0 })
+    if marked then record { r = unit x.red; g = unit x.green; b = unit x.blue; a = f0 } else record { r = f0; g = f0; b = f0; a = f0 }
 
 -- F3: on yes, the first three bytes of `blend`
 unfoldable pub rule_f3 : RenderMode → Combiner → Source → Coverage → Rgba → Colors
@@ -53,7 +53,7 @@ all_eight asked = asked 0 && asked 1 && asked 2 && asked 3 && asked 4 && asked 5
 unfoldable pub fresh_coverage : RenderMode → ℕ → Coverage
 fresh_coverage mode n =
     let number = destination_of mode n 0 in
-    cond (all_eight (λ c. eqb (destination_of mode n c) number)) (Some number) None
+    if all_eight (λ c. destination_of mode n c == number) then Some number else None
 
 -- F5: a marked coverage becomes `destination`'s answer
 unfoldable pub rule_f5 : RenderMode → ℕ → Coverage → Coverage
@@ -77,7 +77,7 @@ known_after mode s x = rule_f1 mode s (coverage_at x) (color_marked x.mark) && n
 
 -- the colours after it: F3 on yes, F4 on no
 unfoldable pub colors_after : RenderMode → Combiner → Source → Pixel → Colors
-colors_after mode k s x = cond (known_after mode s x) (rule_f3 mode k s (coverage_at x) (memory_of (color_marked x.mark) x)) (rule_f4 x)
+colors_after mode k s x = if known_after mode s x then rule_f3 mode k s (coverage_at x) (memory_of (color_marked x.mark) x) else rule_f4 x
 
 -- the coverage after it: F5
 unfoldable pub coverage_after : RenderMode → Source → Pixel → Coverage

@@ -2,7 +2,7 @@
 // allows; an unmarked one is only ever kept.
 #![tactic(auto)]
 
-ghost use Rattle.std.specs.Prelude.{◌≡◌, cond, ◌≤◌, Some, None, is_some, unwrap_or};
+ghost use Rattle.std.specs.Prelude.{◌≡◌, ◌≤◌, Some, None, is_some, unwrap_or, if◌then◌else◌, ◌==◌};
 ghost use Rattle.blender.specs.Blend.{or_zero};
 ghost use Rattle.blender.specs.Joined.{or_zeros};
 ghost use Rattle.blender.specs.Settled.{full_from, settled_clamp};
@@ -192,7 +192,7 @@ pub fn over_colors(layer: Layer, memory: Colors) -> Colors
 
 // F1 to F3 of a pixel that is laid over the memory's colour: it is known where that is.
 fn laid(layer: Layer, bytes: Pixel) -> Option<Colors>
-    ensures { result ≡ cond (color_marked bytes.mark) (Some (over_colors layer (rule_f4 bytes))) None }
+    ensures { result ≡ (if color_marked bytes.mark then Some (over_colors layer (rule_f4 bytes)) else None) }
 {
     if color_marked(bytes.mark) {
         return Some(over_colors(layer, colors_of(bytes)));

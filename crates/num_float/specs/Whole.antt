@@ -1,6 +1,6 @@
 -- To be believed. Floats to whole numbers: what the port's roundings and indices are, on the exact value of a float. Definitions only.
 -- `fin s m e` has the size m * up e / down e.
-use Rattle.std.specs.Prelude.{ℕ, ◌+◌, ◌*◌, ◌/◌, ◌-◌, min, false, cond, ℤ, pos, neg_ℤ, Float}
+use Rattle.std.specs.Prelude.{ℕ, ◌+◌, ◌*◌, ◌/◌, ◌-◌, min, false, ℤ, pos, neg_ℤ, Float, if◌then◌else◌}
 use Rattle.std.specs.Float.{nan, inf, fin, binary32}
 use Rattle.std.specs.Float.Ieee.{up, down, mul}
 use Rattle.num_float.specs.Color.{clamped}
@@ -22,8 +22,8 @@ ceil a b = (a + (b - 1)) / b
 -- A float's size by one of these, at most `cap`. A NaN and what is below zero give 0, as Rust's `.max(0.0) as usize` and its `as u8` do.
 abbrev pub whole : (ℕ → ℕ → ℕ) → ℕ → Float → ℕ
 whole g cap nan = 0
-whole g cap (inf s) = cond s 0 cap
-whole g cap (fin s m e) = cond s 0 (min (g (m * up e) (down e)) cap)
+whole g cap (inf s) = if s then 0 else cap
+whole g cap (fin s m e) = if s then 0 else min (g (m * up e) (down e)) cap
 
 -- Indices are cut off here: above every index of a frame (1,024) and of a scissor (65,535 + 65,535)
 abbrev pub index_cap : ℕ
@@ -36,7 +36,7 @@ byte_of v = whole near 255 (mul binary32 (clamped v) f255)
 -- Rust's (f64::from(x) * 4.0).round() as i64, cut off at 65536 either way: 4 x, halves away from zero
 abbrev pub quarter_of : Float → ℤ
 quarter_of nan = pos 0
-quarter_of (inf s) = cond s (neg_ℤ (pos 65536)) (pos 65536)
+quarter_of (inf s) = if s then neg_ℤ (pos 65536) else pos 65536
 quarter_of (fin s m e) =
     let n = min (near (m * up e * 4) (down e)) 65536 in
-    cond s (neg_ℤ (pos n)) (pos n)
+    if s then neg_ℤ (pos n) else pos n

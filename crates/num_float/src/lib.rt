@@ -2,7 +2,7 @@
 // Every public function is total on every bit pattern. Tests are strict (<, >), so that a NaN falls into the last arm.
 #![tactic(auto)]
 
-ghost use Rattle.std.specs.Prelude.{◌≡◌, cond, false, ◌*◌, ◌/◌, ◌%◌, ◌^◌, ◌≤◌, to_bits};
+ghost use Rattle.std.specs.Prelude.{◌≡◌, false, ◌*◌, ◌/◌, ◌%◌, ◌^◌, ◌≤◌, to_bits, if◌then◌else◌, ◌==◌};
 ghost use Rattle.std.specs.Float.{NotNan, binary64};
 ghost use Rattle.std.specs.Float.Ieee.{lt, neg};
 ghost use Rattle.std.specs.Float.Ieee.Exact.{HasValue};
@@ -46,14 +46,14 @@ pub fn le_total(a: f32, b: f32) -> bool
 
 // v where it is above 0, and 0 for the rest, a NaN too. Not `max`: that may answer either of two zeros.
 fn above_zero(v: f32) -> f32
-    ensures { result ≡ cond (lt f0 v) v f0 }
+    ensures { result ≡ (if lt f0 v then v else f0) }
 {
     if v > 0.0 { v } else { 0.0 }
 }
 
 // v where it is below top, and top for the rest. Not `min`: that may answer either of two that compare equal.
 fn up_to(v: f32, top: f32) -> f32
-    ensures { result ≡ cond (lt v top) v top }
+    ensures { result ≡ (if lt v top then v else top) }
 {
     if v < top { v } else { top }
 }
@@ -86,7 +86,7 @@ pub fn byte_of(v: f32) -> u8
 
 // Rust's x.abs(), but for the sign of a zero. Not `abs`: that tests for a zero too, at each coordinate of each triangle.
 fn magnitude(x: f32) -> f32
-    ensures { result ≡ cond (lt x f0) (neg x) x }
+    ensures { result ≡ (if lt x f0 then neg x else x) }
 {
     if x < 0.0 { -x } else { x }
 }

@@ -1,6 +1,6 @@
 -- To be believed. The checks of the Rust's `admitted` on three vertices. Definitions only. Source: writeback.rs, `admitted`, its checks in its order; docs/RULES.md, Admitted draws,
 -- numbers them.
-use Rattle.std.specs.Prelude.{ℕ, ◌+◌, ◌*◌, Bool, true, false, cond, not, ◌&&◌, ◌||◌, List, eqb, ltb, leb, Float, length, get_or, Option, Some, None, Result, Ok, Err}
+use Rattle.std.specs.Prelude.{ℕ, ◌+◌, ◌*◌, Bool, true, false, not, ◌&&◌, ◌||◌, List, Float, length, Option, Some, None, Result, Ok, Err, if◌then◌else◌, ◌==◌, nat_lt, nat_le, slice_index_or, slice_index}
 use Rattle.std.specs.Float.{nan}
 use Rattle.std.specs.Float.Ieee.{ne}
 use Rattle.state.specs.declared.Rgba.{Rgba}
@@ -18,17 +18,17 @@ use Rattle.raster_admitted.specs.declared.Check.TheVariants as check
 abbrev pub vertex_at : List Float → ℕ → Vertex
 vertex_at vs i =
     record {
-      x = get_or vs (6 * i) nan;
-      y = get_or vs (6 * i + 1) nan;
-      r = get_or vs (6 * i + 2) nan;
-      g = get_or vs (6 * i + 3) nan;
-      b = get_or vs (6 * i + 4) nan;
-      a = get_or vs (6 * i + 5) nan;
+      x = slice_index_or vs (6 * i) nan;
+      y = slice_index_or vs (6 * i + 1) nan;
+      r = slice_index_or vs (6 * i + 2) nan;
+      g = slice_index_or vs (6 * i + 3) nan;
+      b = slice_index_or vs (6 * i + 4) nan;
+      a = slice_index_or vs (6 * i + 5) nan;
     }
 
 -- an index names a vertex if it is below the number of presence flags, its flag is 1, and its floats are there
 unfoldable pub looked_up : List Float → List ℕ → ℕ → Option Vertex
-looked_up vs ps i = cond (ltb i (length ps) && eqb (get_or ps i 0) 1 && leb (6 * i + 6) (length vs)) (Some (vertex_at vs i)) None
+looked_up vs ps i = if nat_lt i (length ps) && slice_index ps i == 1 && nat_le (6 * i + 6) (length vs) then Some (vertex_at vs i) else None
 
 abbrev pub colour_of : Vertex → Rgba
 colour_of v = record { r = v.r; g = v.g; b = v.b; a = v.a }
@@ -61,15 +61,15 @@ alpha_differs x (Some c) = ne c.a x
 -- checks 5 and 6, from the combined colour of the first vertex
 abbrev pub alpha_check : Combiner → Vertex → Vertex → Vertex → Option Rgba → ℕ
 alpha_check k a b c None = 5
-alpha_check k a b c (Some first) = cond (any (λ (v : Vertex). alpha_differs first.a (color_of k (colour_of v))) a b c) 6 0
+alpha_check k a b c (Some first) = if any (λ (v : Vertex). alpha_differs first.a (color_of k (colour_of v))) a b c then 6 else 0
 
 -- The first check that fails, in the Rust's order: 2 position, 3 shade alpha, 4 not finite, 5 no colour, 6 alpha differs; 0 for none
 unfoldable pub check_of : Combiner → Vertex → Vertex → Vertex → ℕ
 check_of k a b c =
-    cond (any (λ (v : Vertex). not (in_range v)) a b c) 2
-    (cond (uses_shade k.selectors && any (λ (v : Vertex). ne v.a a.a) a b c) 3
-    (cond (any (λ (v : Vertex). not (finite_color v)) a b c) 4
-    (alpha_check k a b c (color_of k (colour_of a)))))
+    if any (λ (v : Vertex). not (in_range v)) a b c then 2
+    else if uses_shade k.selectors && any (λ (v : Vertex). ne v.a a.a) a b c then 3
+    else if any (λ (v : Vertex). not (finite_color v)) a b c then 4
+    else alpha_check k a b c (color_of k (colour_of a))
 
 -- the number of the check that fails; 0 for none
 abbrev pub check_number : Result Unit Check → ℕ

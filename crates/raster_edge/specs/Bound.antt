@@ -1,5 +1,5 @@
 -- Inner vocabulary. What bounds the edges on four quarter lines: the outermost, and the innermost as the first and the last full pixel. Definitions only.
-use Rattle.std.specs.Prelude.{ℕ, ◌+◌, ◌/◌, min, max, Bool, true, false, List, get_or, ℤ, pos, negsuc, ◌-ℤ◌}
+use Rattle.std.specs.Prelude.{ℕ, ◌+◌, ◌/◌, min, max, Bool, true, false, List, ℤ, pos, negsuc, ◌-ℤ◌, slice_index_or}
 use Rattle.std.specs.Int.Signed.{lt_z, le_z}
 use Rattle.raster_range.specs.declared.Range.{Range}
 
@@ -22,7 +22,7 @@ tip_by false false l r = negsuc 0
 
 -- line s of four
 abbrev pub tip_of : Bool → List ℤ → List ℤ → ℕ → ℤ
-tip_of low l r s = tip_by (lt_z (get_or l s (pos 0)) (get_or r s (pos 0))) low (get_or l s (pos 0)) (get_or r s (pos 0))
+tip_of low l r s = tip_by (lt_z (slice_index_or l s (pos 0)) (slice_index_or r s (pos 0))) low (slice_index_or l s (pos 0)) (slice_index_or r s (pos 0))
 
 -- all four
 unfoldable pub outermost_of : Bool → List ℤ → List ℤ → ℤ
@@ -39,7 +39,7 @@ range_of from to lo hi = record { start = clamp_of from lo hi; end = clamp_of to
 
 -- the smaller or the larger of the edges on rows i and j, within 0 to 8,192: the eighths of the pixels 0 to 1,023
 unfoldable pub edge_of_rows : Bool → List ℤ → ℕ → ℕ → ℕ
-edge_of_rows low e i j = clamp_of (outer_of low (get_or e i (pos 0)) (get_or e j (pos 0))) 0 8192
+edge_of_rows low e i j = clamp_of (outer_of low (slice_index_or e i (pos 0)) (slice_index_or e j (pos 0))) 0 8192
 
 -- the first pixel x all of whose samples lie right of their left edges: 8 x, and 8 x + 2 on the odd rows, are the leftmost
 unfoldable pub full_from : List ℤ → ℕ

@@ -1,7 +1,7 @@
 -- To be believed. A triangle's edges in whole numbers, after the edge coefficients of the N64 Programming Manual and the N64brew wiki's RDP pages; the
 -- roundings are the Rust's. Corners are in quarters of a pixel, an edge's x in 2^-16 of a pixel, a line's x in eighths of a pixel.
 -- Definitions only.
-use Rattle.std.specs.Prelude.{ℕ, List, get_or, ℤ, pos, ◌-ℤ◌, ◌*ℤ◌}
+use Rattle.std.specs.Prelude.{ℕ, List, ℤ, pos, ◌-ℤ◌, ◌*ℤ◌, slice_index_or}
 use Rattle.std.specs.Int.Signed.{shr_z}
 use Rattle.raster_edges.specs.declared.Corner.{Corner}
 use Rattle.raster_edge.specs.declared.Edge.{Edge}
@@ -13,7 +13,7 @@ slope_of a b = floor_to (away_div ((b.x -ℤ a.x) *ℤ pos 65536) (at_least_one 
 
 -- corner i of a list
 abbrev pub corner_at : List Corner → ℕ → Corner
-corner_at v i = get_or v i (record { x = pos 0; y = pos 0 })
+corner_at v i = slice_index_or v i (record { x = pos 0; y = pos 0 })
 
 -- twice the area of the triangle a, b, c, by the turn of its corners
 unfoldable pub area_by : Corner → Corner → Corner → ℤ

@@ -1,6 +1,6 @@
 -- To be believed. The eight samples of a pixel: four rows of two, every other one of a four by four grid (N64 Programming Manual and N64brew wiki, coverage).
 -- Their positions, in eighths of a pixel, and their bits are the Rust's. Definitions only.
-use Rattle.std.specs.Prelude.{ℕ, ◌+◌, ◌*◌, ◌%◌, Bool, true, false, ◌&&◌, get_or, ℤ, pos}
+use Rattle.std.specs.Prelude.{ℕ, ◌+◌, ◌*◌, ◌%◌, Bool, true, false, ◌&&◌, ℤ, pos, slice_index_or}
 use Rattle.std.specs.Int.Signed.{le_z, lt_z}
 use Rattle.raster_edges.specs.declared.Edges.{Edges}
 
@@ -22,7 +22,7 @@ two_of l r n = 2 * bit_of (inside l r n) + bit_of (inside l r (n + 4))
 
 -- those of pixel x on row s
 unfoldable pub pair_of : Edges → ℕ → ℕ → ℕ
-pair_of e x s = two_of (get_or e.left s (pos 0)) (get_or e.right s (pos 0)) (sample_at x s)
+pair_of e x s = two_of (slice_index_or e.left s (pos 0)) (slice_index_or e.right s (pos 0)) (sample_at x s)
 
 -- the four rows, row 0 in the highest bits: bit 7 is its left sample
 unfoldable pub mask_of : Edges → ℕ → ℕ

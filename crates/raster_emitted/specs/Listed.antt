@@ -1,6 +1,6 @@
 -- Inner vocabulary. Emitted pixels in two lent slices, one for their numbers and one for their masks: what a part of a draw writes there, and how far it counts.
 -- Definitions only.
-use Rattle.std.specs.Prelude.{ℕ, ◌+◌, ◌-◌, ◌≤◌, ◌<◌, min, ◌≡◌, List, length, get_or}
+use Rattle.std.specs.Prelude.{ℕ, ◌+◌, ◌-◌, ◌≤◌, ◌<◌, min, ◌≡◌, List, length, slice_index_or, slice_index}
 use Rattle.std.specs.Borrow.{MutBor}
 use denote.Triple.Both.{Both}
 use Rattle.raster_emitted.specs.declared.slots.Window.{Window}
@@ -15,7 +15,7 @@ abbrev pub slots_of : List ℕ → List ℕ → Slots
 slots_of pixels masks = record { pixels = pixels; masks = masks }
 
 abbrev pub slot_at : Slots → ℕ → Masked
-slot_at s i = record { pixel = get_or s.pixels i 0; mask = get_or s.masks i 0 }
+slot_at s i = record { pixel = slice_index s.pixels i; mask = slice_index s.masks i }
 
 -- two slices of one length, and a count that is not past the window's end
 pub record Ready (v : Window) (n : ℕ) (s : Slots) : Type 0 where
@@ -28,7 +28,7 @@ pub record ListedPart (v : Window) (es : List Masked) (n m : ℕ) (before after 
   pub count : m ≡ min v.limit (n + length es)
   pub pixels : length after.pixels ≡ length before.pixels
   pub masks : length after.masks ≡ length before.masks
-  pub there : (i : ℕ) → i < length before.masks → n ≤ v.first + i → v.first + i < m → slot_at after i ≡ get_or es (v.first + i - n) no_pixel
+  pub there : (i : ℕ) → i < length before.masks → n ≤ v.first + i → v.first + i < m → slot_at after i ≡ slice_index_or es (v.first + i - n) no_pixel
   pub earlier : (i : ℕ) → i < length before.masks → v.first + i < n → slot_at after i ≡ slot_at before i
   pub later : (i : ℕ) → i < length before.masks → m ≤ v.first + i → slot_at after i ≡ slot_at before i
 

@@ -1,6 +1,6 @@
 -- Inner vocabulary. The pixels that a shape emits without their colours, parts of a draw as raster_pixel/specs/Emitted has them. Definitions only; that they are those of the
 -- emitted list is proofs/Colorless.
-use Rattle.std.specs.Prelude.{ℕ, ◌+◌, ◌*◌, ◌/◌, Bool, cond, ◌||◌, List, [], ◌∷◌, map, eqb, nat_abs, Float, length, Option, Some, None}
+use Rattle.std.specs.Prelude.{ℕ, ◌+◌, ◌*◌, ◌/◌, Bool, ◌||◌, List, [], ◌∷◌, map, nat_abs, Float, length, Option, Some, None, if◌then◌else◌, ◌==◌}
 use Rattle.raster_vertex.specs.declared.Vertex.{Vertex}
 use Rattle.raster_vertex.specs.declared.Triangle.{Triangle}
 use Rattle.raster_vertex.specs.Sorted.{sorted}
@@ -22,7 +22,7 @@ use Rattle.raster_emitted.specs.Masked.{Masked}
 
 -- pixel p with these samples, where it is emitted
 unfoldable pub pixel_masks : Bool → ℕ → ℕ → List Masked
-pixel_masks antialias mask p = cond (shown antialias mask) (record { pixel = p; mask = mask } ∷ []) []
+pixel_masks antialias mask p = if shown antialias mask then record { pixel = p; mask = mask } ∷ [] else []
 
 -- pixels a up to b, each with this mask
 abbrev pub run_masks : ℕ → ℕ → ℕ → List Masked
@@ -42,7 +42,7 @@ shape_masks antialias t s w h = inside s w h (λ (y : ℕ). row_masks antialias 
 unfoldable pub triangle_masks : Bool → Bool → Scissor → ℕ → ℕ → Vertex → Vertex → Vertex → List Masked
 triangle_masks antialias cull s w h a b c =
     let corners = map corner_of (sorted (a ∷ b ∷ c ∷ [])) in
-    cond (culled_of cull a b c || eqb (nat_abs (area_of corners)) 0) [] (shape_masks antialias (tri_of corners) s w h)
+    if culled_of cull a b c || nat_abs (area_of corners) == 0 then [] else shape_masks antialias (tri_of corners) s w h
 
 abbrev pub three_masks : Bool → Bool → Scissor → ℕ → ℕ → Option Triangle → List Masked
 three_masks antialias cull s w h None = []

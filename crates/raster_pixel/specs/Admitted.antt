@@ -1,6 +1,6 @@
 -- To be believed. Which draws the Rust's `admitted` takes: no triangle has a check that fails. Definitions only. Source: writeback.rs, `admitted`, its checks in its order;
 -- docs/RULES.md, Admitted draws, numbers them.
-use Rattle.std.specs.Prelude.{ℕ, zero, suc, ◌+◌, ◌*◌, ◌/◌, Bool, true, false, ◌&&◌, List, eqb, Float, length, get_or, Option, Some, None}
+use Rattle.std.specs.Prelude.{ℕ, zero, suc, ◌+◌, ◌*◌, ◌/◌, Bool, true, false, ◌&&◌, List, Float, length, Option, Some, None, ◌==◌, slice_index}
 use Rattle.combiner.specs.declared.Combiner.{Combiner}
 use Rattle.raster_vertex.specs.declared.Vertex.{Vertex}
 use Rattle.raster_vertex.specs.declared.Triangle.{Triangle}
@@ -17,7 +17,7 @@ three (Some a) (Some b) (Some c) = Some (record { a = a; b = b; c = c })
 
 unfoldable pub triangle_at : List Float → List ℕ → List ℕ → ℕ → Option Triangle
 triangle_at vs ps is i =
-    three (looked_up vs ps (get_or is (3 * i) 0)) (looked_up vs ps (get_or is (3 * i + 1) 0)) (looked_up vs ps (get_or is (3 * i + 2) 0))
+    three (looked_up vs ps (slice_index is (3 * i))) (looked_up vs ps (slice_index is (3 * i + 1))) (looked_up vs ps (slice_index is (3 * i + 2)))
 
 -- 1 where a vertex is missing
 abbrev pub check_three : Combiner → Option Triangle → ℕ
@@ -36,4 +36,4 @@ all p (suc n) i = p i && all p n (i + 1)
 unfoldable pub admitted_of : Combiner → Geometry → List Float → List ℕ → List ℕ → Bool
 admitted_of k Nothing vs ps is = false
 admitted_of k (Rectangle sides) vs ps is = true
-admitted_of k Triangles vs ps is = all (λ (i : ℕ). eqb (failing k vs ps is i) 0) (length is / 3) 0
+admitted_of k Triangles vs ps is = all (λ (i : ℕ). failing k vs ps is i == 0) (length is / 3) 0

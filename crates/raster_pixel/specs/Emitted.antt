@@ -1,6 +1,6 @@
 -- To be believed. The pixels that a draw emits, in the Rust's order: triangle after triangle, row after row, from left to right. Definitions only. Source: writeback.rs,
 -- `rasterize`. A row is every pixel of the frame inside the scissor; that its outermost edges may be looked at first is a law, and not part of this.
-use Rattle.std.specs.Prelude.{ℕ, ◌+◌, ◌*◌, ◌/◌, min, Bool, cond, ◌&&◌, ◌||◌, List, [], ◌∷◌, map, eqb, ltb, leb, nat_abs, Float, length, Option, Some, None}
+use Rattle.std.specs.Prelude.{ℕ, ◌+◌, ◌*◌, ◌/◌, min, Bool, ◌&&◌, ◌||◌, List, [], ◌∷◌, map, nat_abs, Float, length, Option, Some, None, if◌then◌else◌, ◌==◌, nat_lt, nat_le}
 use Rattle.num_float.specs.Whole.{quarter_of}
 use Rattle.state.specs.declared.RenderMode.{RenderMode}
 use Rattle.state.specs.declared.Rgba.{Rgba}
@@ -33,7 +33,7 @@ pub record Emit : Type 0 where
 
 -- a pixel is emitted if a sample is hit; without antialias, only if bit 7, its upper left sample, is
 abbrev pub shown : Bool → ℕ → Bool
-shown antialias mask = ltb 0 mask && (antialias || leb 128 mask)
+shown antialias mask = nat_lt 0 mask && (antialias || nat_le 128 mask)
 
 -- a pixel with its combined colour, if there is one: a combiner that `new` made always has one
 abbrev pub covered : ℕ → Option Rgba → Float → Option Fragment
@@ -60,15 +60,15 @@ unfoldable pub triangle_fragment : Bool → Combiner → List Vertex → Edges �
 triangle_fragment antialias k o e y x =
     let mask = mask_of e x in
     let shade = shade_of o x y in
-    cond (shown antialias mask) (covered mask (color_of k shade) shade.a) None
+    if shown antialias mask then covered mask (color_of k shade) shade.a else None
 
 -- nothing of a triangle that is culled, by its float area before sorting, or whose area in quarter units is 0
 unfoldable pub triangle_emits : RenderMode → Combiner → Bool → Scissor → ℕ → ℕ → Vertex → Vertex → Vertex → List Emit
 triangle_emits m k cull s w h a b c =
     let o = sorted (a ∷ b ∷ c ∷ []) in
     let corners = map corner_of o in
-    cond (culled_of cull a b c || eqb (nat_abs (area_of corners)) 0) []
-    (inside s w h (λ (y x : ℕ). emits (triangle_fragment m.antialias k o (edges_of (tri_of corners) y) y x) (y * w + x)))
+    if culled_of cull a b c || nat_abs (area_of corners) == 0 then []
+    else inside s w h (λ (y x : ℕ). emits (triangle_fragment m.antialias k o (edges_of (tri_of corners) y) y x) (y * w + x))
 
 abbrev pub three_emits : RenderMode → Combiner → Bool → Scissor → ℕ → ℕ → Option Triangle → List Emit
 three_emits m k cull s w h None = []
@@ -78,7 +78,7 @@ three_emits m k cull s w h (Some t) = triangle_emits m k cull s w h t.a t.b t.c
 unfoldable pub rectangle_fragment : Bool → Option Rgba → Sides → ℕ → ℕ → Option Fragment
 rectangle_fragment antialias c sides y x =
     let mask = rect_mask sides x y in
-    cond (shown antialias mask) (covered mask c full_shade.a) None
+    if shown antialias mask then covered mask c full_shade.a else None
 
 unfoldable pub rectangle_emits : RenderMode → Combiner → Scissor → ℕ → ℕ → Sides → List Emit
 rectangle_emits m k s w h sides =

@@ -1,6 +1,6 @@
 -- To be believed. A depth as a 16-bit word. Source: the N64 Programming Manual's Z buffer format, a floating format of eight ranges, and
 -- docs/RULES.md, Packing, for `pack_depth`, whose Rust cannot be had; that the depth is cut and not rounded is a reading (docs/DECISIONS.md). Definitions only.
-use Rattle.std.specs.Prelude.{ℕ, ◌+◌, ◌-◌, ◌*◌, ◌/◌, ◌^◌, ◌<◌, ◌≤◌, cond, List, [], ◌∷◌, nat_le, Float}
+use Rattle.std.specs.Prelude.{ℕ, ◌+◌, ◌-◌, ◌*◌, ◌/◌, ◌^◌, ◌<◌, ◌≤◌, List, [], ◌∷◌, nat_le, Float, if◌then◌else◌}
 use Rattle.num_float.specs.Whole.{whole}
 
 -- The largest depth of eighteen bits
@@ -39,7 +39,7 @@ Within r d = (r.first ≤ d) × ((d - r.first) / 2 ^ r.shift < 2048)
 -- The last range of the table whose first depth is at or below d
 unfoldable pub last_from : Range → List Range → ℕ → Range
 last_from r [] d = r
-last_from r (s ∷ rs) d = last_from (cond (nat_le s.first d) s r) rs d
+last_from r (s ∷ rs) d = last_from (if nat_le s.first d then s else r) rs d
 
 unfoldable pub range_of : ℕ → Range
 unfolding last_from

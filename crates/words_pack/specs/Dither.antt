@@ -1,6 +1,6 @@
 -- To be believed. The thresholds of ordered dithering, by the pixel's place in a square of 4 x 4. Source: the N64 Programming Manual's RGB dither
 -- modes (0 magic square, 1 Bayer, 2 noise, 3 none) and N64brew's RDP pages for the two squares. Definitions only.
-use Rattle.std.specs.Prelude.{ℕ, ◌+◌, ◌*◌, ◌%◌, cond, ◌||◌, List, [], ◌∷◌, ◌==◌, slice_index}
+use Rattle.std.specs.Prelude.{ℕ, ◌+◌, ◌*◌, ◌%◌, ◌||◌, List, [], ◌∷◌, ◌==◌, slice_index, if◌then◌else◌}
 
 -- four rows of four
 abbrev pub magic : List ℕ
@@ -18,4 +18,4 @@ entry_at square x y = slice_index square (place_of x y)
 
 -- Noise has no reproducible guest RNG and takes the magic square, as the Rust does. No three bits are above 7.
 unfoldable pub threshold_of : ℕ → ℕ → ℕ → ℕ
-threshold_of mode x y = cond (mode == 0 || mode == 2) (entry_at magic x y) (cond (mode == 1) (entry_at bayer x y) 7)
+threshold_of mode x y = if mode == 0 || mode == 2 then entry_at magic x y else if mode == 1 then entry_at bayer x y else 7

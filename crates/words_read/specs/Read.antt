@@ -1,5 +1,5 @@
 -- To be believed. A word read: numbers 1 to 3 and 8 to 10 (docs/RULES.md, The numbers), and `encode`'s two bytes without a literal. Definitions only.
-use Rattle.std.specs.Prelude.{ℕ, zero, suc, ◌*◌, ◌≤◌, Bool, false, cond, not, ◌&&◌, ◌||◌, ltb, eqb, None, Result, Ok, Err}
+use Rattle.std.specs.Prelude.{ℕ, zero, suc, ◌*◌, ◌≤◌, Bool, false, not, ◌&&◌, ◌||◌, None, Result, Ok, Err, if◌then◌else◌, ◌==◌, nat_lt}
 use Rattle.frame_pixel.specs.declared.Pixel.{Pixel}
 use Rattle.frame_pixel.specs.Marks.{color_marked, coverage_marked, coverage_of}
 use Rattle.blender.specs.Blend.{or_zero}
@@ -32,12 +32,12 @@ writer_of a w = writer_by w a.fmt a.siz
 
 -- 10: the colour is unmarked, or the coverage is unmarked and siz is 2
 abbrev pub readable : ℕ → ℕ → Bool
-readable mark siz = color_marked mark && (coverage_marked mark || not (eqb siz 2))
+readable mark siz = color_marked mark && (coverage_marked mark || not (siz == 2))
 
 -- 8: the pixel is not below N. 9: fmt and siz are not a supported colour writer
 unfoldable pub word_refusal : ReadArgs → ℕ → ℕ → Pixel → ℕ
 word_refusal a w n x =
-    cond (ltb a.pixel n) (cond (supported_of (writer_of a w)) (cond (readable x.mark a.siz) 0 10) 9) 8
+    if nat_lt a.pixel n then if supported_of (writer_of a w) then if readable x.mark a.siz then 0 else 10 else 9 else 8
 
 unfoldable pub read_refusal : ReadArgs → ℕ → ℕ → Frame → ℕ
 read_refusal a w h f = or_else (frame_refusal f w h) (word_refusal a w (w * h) (pixel_at f a.pixel))

@@ -1,5 +1,5 @@
 -- Inner vocabulary. A run as the code goes through it: the two lent slices as entries, one for each pixel, and the word of a pixel from its column and row. Definitions only.
-use Rattle.std.specs.Prelude.{ℕ, ◌+◌, ◌*◌, ◌/◌, ◌%◌, ◌≤◌, ◌<◌, ◌≡◌, cond, List, eqb, length, get_or, set}
+use Rattle.std.specs.Prelude.{ℕ, ◌+◌, ◌*◌, ◌/◌, ◌%◌, ◌≤◌, ◌<◌, ◌≡◌, List, length, set, if◌then◌else◌, ◌==◌, slice_index}
 use Rattle.frame_pixel.specs.declared.Pixel.{Pixel}
 use Rattle.words_pack.specs.declared.Bytes2.{Bytes2}
 use Rattle.words_pack.specs.declared.FramebufferEncoding.{FramebufferEncoding}
@@ -62,22 +62,22 @@ refused_by k = answer_of k no_word
 
 -- a pixel's colour bytes as `encode` takes them
 abbrev pub color_at : List ℕ → ℕ → Rgba8
-color_at colors p = record { r = get_or colors (3 * p) 0; g = get_or colors (3 * p + 1) 0; b = get_or colors (3 * p + 2) 0; a = 0 }
+color_at colors p = record { r = slice_index colors (3 * p); g = slice_index colors (3 * p + 1); b = slice_index colors (3 * p + 2); a = 0 }
 
 -- the two bytes of the pixel in column x and row y: 16 bits with the coverage's top bit, or one byte
 abbrev pub halfword : ℕ → ℕ → ℕ → FramebufferEncoding → Rgba8 → ℕ → Bytes2
 halfword x y dither encoding color coverage = writer.bytes_of encoding (pack_color_of color coverage (threshold_of dither x y))
 
 abbrev pub byte_of : ℕ → Rgba8 → Bytes2
-byte_of x color = (cond (eqb (x % 2) 0) color.r color.g, 0)
+byte_of x color = (if x % 2 == 0 then color.r else color.g, 0)
 
 abbrev pub word_at : ℕ → ℕ → ℕ → ℕ → FramebufferEncoding → Rgba8 → ℕ → Bytes2
-word_at siz x y dither encoding color coverage = cond (eqb siz 2) (halfword x y dither encoding color coverage) (byte_of x color)
+word_at siz x y dither encoding color coverage = if siz == 2 then halfword x y dither encoding color coverage else byte_of x color
 
 -- its answer where numbers 1 to 9 let it through
 unfoldable pub answer_at : ℕ → ℕ → ℕ → ℕ → FramebufferEncoding → Pixel → WordAnswer
 answer_at siz x y dither encoding c =
-    cond (readable c.mark siz) (answer_of 0 (word_at siz x y dither encoding (bytes_of c) c.coverage)) (refused_by 10)
+    if readable c.mark siz then answer_of 0 (word_at siz x y dither encoding (bytes_of c) c.coverage) else refused_by 10
 
 -- pixel p of a frame of width w
 abbrev pub answer_in : ℕ → ℕ → ℕ → FramebufferEncoding → Frame → ℕ → WordAnswer

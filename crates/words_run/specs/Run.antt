@@ -1,6 +1,6 @@
 -- To be believed. A run of words: the single word reads of the pixels first, first + 1, .. on one frame, one after the other, into lent slices for their bytes and numbers.
 -- Definitions only.
-use Rattle.std.specs.Prelude.{ℕ, zero, suc, ◌+◌, ◌*◌, ◌≤◌, cond, List, [], ◌∷◌, eqb, length, get_or, Result, Ok, Err}
+use Rattle.std.specs.Prelude.{ℕ, zero, suc, ◌+◌, ◌*◌, ◌≤◌, List, [], ◌∷◌, length, Result, Ok, Err, if◌then◌else◌, ◌==◌, slice_index}
 use Rattle.frame.specs.Frame.{Frame}
 use Rattle.refused.specs.declared.Refusal.{Refusal}
 use Rattle.refused.specs.Numbers.{number_of}
@@ -30,7 +30,7 @@ words_of (x ∷ xs) = x.word.0 ∷ x.word.1 ∷ words_of xs
 
 -- entry i of two such slices, as an answer
 abbrev pub entry_of : List ℕ → List ℕ → ℕ → WordAnswer
-entry_of words numbers i = record { number = get_or numbers i 0; word = (get_or words (2 * i) 0, get_or words (2 * i + 1) 0) }
+entry_of words numbers i = record { number = slice_index numbers i; word = (slice_index words (2 * i), slice_index words (2 * i + 1)) }
 
 -- how many of them are words
 abbrev pub one_if : ℕ → ℕ
@@ -67,5 +67,5 @@ unmatched = 19
 -- as many pixels as there are numbers
 unfoldable pub run_answer : ReadArgs → ℕ → ℕ → Frame → List ℕ → List ℕ → RunAnswer
 run_answer a w h f ws ns =
-    cond (eqb (length ws) (2 * length ns)) (run_by (read_answers a w h f (length ns)))
-    (record { number = unmatched; count = 0; words = ws; numbers = ns })
+    if length ws == 2 * length ns then run_by (read_answers a w h f (length ns))
+    else record { number = unmatched; count = 0; words = ws; numbers = ns }

@@ -1,6 +1,6 @@
 // The entries of a run of words. What does not turn on the pixel is asked before; column and row are counted along, not divided out. A colour byte is loaded
 // after number 10 let it through, and a coverage only for 16 bits, where number 10 asks its mark.
-ghost use Rattle.std.specs.Prelude.{◌≡◌, ℕ, ◌+◌, ◌*◌, ◌<◌, ◌≤◌, length, get_or};
+ghost use Rattle.std.specs.Prelude.{◌≡◌, ℕ, ◌+◌, ◌*◌, ◌<◌, ◌≤◌, length, if◌then◌else◌, ◌==◌, slice_index};
 ghost use Rattle.frame.specs.Frame.{pixel_at, frame_of};
 ghost use Rattle.frame.specs.Fits.{Fit};
 ghost use Rattle.frame.specs.Loads.{ColorKnown, CoverageKnown, ColorThere, Loadable};
@@ -80,7 +80,7 @@ fn read_halfword(
 ) -> Bytes2
     requires known { ColorKnown marks.now pixel × CoverageKnown marks.now pixel }
     requires there { Loadable (frame_of colors.now coverages.now marks.now) pixel }
-    ensures { result ≡ halfword place.x place.y format.rgb_dither format.encoding (color_at colors.now pixel) (get_or coverages.now pixel 0) }
+    ensures { result ≡ halfword place.x place.y format.rgb_dither format.encoding (color_at colors.now pixel) (slice_index coverages.now pixel) }
 {
     let color = frame::load::color(colors, marks, pixel);
     let coverage = frame::load::coverage(coverages, marks, pixel);
@@ -115,7 +115,7 @@ fn read_at(
 ) -> Bytes2
     requires known { ColorKnown marks.now pixel × (format.siz ≡ 2 → CoverageKnown marks.now pixel) }
     requires there { Loadable (frame_of colors.now coverages.now marks.now) pixel }
-    ensures { result ≡ word_at format.siz place.x place.y format.rgb_dither format.encoding (color_at colors.now pixel) (get_or coverages.now pixel 0) }
+    ensures { result ≡ word_at format.siz place.x place.y format.rgb_dither format.encoding (color_at colors.now pixel) (slice_index coverages.now pixel) }
 {
     if format.siz == 2 {
         read_halfword(colors, coverages, marks, pixel, place, format)

@@ -1,5 +1,5 @@
 -- To be believed. Number 11 (docs/RULES.md, The numbers): what a single-pixel call may be given, as far as it takes it. Definitions only.
-use Rattle.std.specs.Prelude.{ℕ, Bool, true, cond, ◌&&◌, leb, ltb, Some, None}
+use Rattle.std.specs.Prelude.{ℕ, Bool, true, ◌&&◌, Some, None, if◌then◌else◌, nat_lt, nat_le}
 use Rattle.blender.specs.Coverage.{Coverage}
 use Rattle.refused.specs.Numbers.{number_of}
 use Rattle.refused.specs.declared.Refusal.{Refusal}
@@ -11,11 +11,11 @@ eleven = 11
 
 -- a mask that is not 0
 abbrev pub mask_ok : ℕ → Bool
-mask_ok m = ltb 0 m
+mask_ok m = nat_lt 0 m
 
 -- a coverage of at most 7
 abbrev pub coverage_ok : ℕ → Bool
-coverage_ok c = leb c 7
+coverage_ok c = nat_le c 7
 
 -- an absent coverage is not taken
 abbrev pub known_ok : Coverage → Bool
@@ -24,15 +24,15 @@ known_ok (Some c) = coverage_ok c
 
 -- a width from 1 to 1,024
 abbrev pub width_ok : ℕ → Bool
-width_ok w = leb 1 w && leb w 1024
+width_ok w = nat_le 1 w && nat_le w 1024
 
 -- a siz of at most 3
 abbrev pub siz_ok : ℕ → Bool
-siz_ok s = leb s 3
+siz_ok s = nat_le s 3
 
 -- a pixel of at most 1,048,575
 abbrev pub place_ok : ℕ → Bool
-place_ok p = ltb p 1048576
+place_ok p = nat_lt p 1048576
 
 -- what every call with a writer takes of these, also where it needs only one of the two
 abbrev pub writer_ok : Writer → Bool
@@ -59,4 +59,4 @@ abbrev pub turned_away : {A : Type 0} → Refusal → A → Outcome A
 turned_away why none = record { number = number_of why; value = none }
 
 unfoldable pub checked : {A : Type 0} → Bool → A → A → Outcome A
-checked ok value none = cond ok (accepted value) (refused none)
+checked ok value none = if ok then accepted value else refused none
