@@ -13,7 +13,7 @@ pub enum Call {
     Mask, // one by its place
 }
 
-// Whether a call's number and two of its values are those that a line has next, behind ` =`.
+// Whether a call's number and its values are those that a line has next, behind ` =`.
 fn held(line: &mut Line<'_>, number: u32, values: &[u64]) -> Option<bool> {
     line.skip(b" =")?;
     let mut same = line.read::<u32>()? == number;
@@ -23,6 +23,7 @@ fn held(line: &mut Line<'_>, number: u32, values: &[u64]) -> Option<bool> {
     Some(same)
 }
 
+// Here and below the fields of a frame and of a draw are spelled out: the C interface takes plain values.
 fn draw(line: &mut Line<'_>, engine: u8, frame: &mut Frame) -> Option<bool> {
     let draw: Draw = line.read()?;
     let answer = c_frame::draw(

@@ -9,7 +9,8 @@ use std::io::Read;
 // One more than the longest input that the programs take.
 pub const SPACE: usize = 524288;
 
-// Reads until buf is full or the input ends, and gives how many bytes it put at the start of buf.
+// Reads until buf is full or the input ends, and gives how many bytes it put at the start of buf. A `while`, since a read gives as
+// many bytes as it likes: no range or iterator has its steps.
 pub fn read_full<R: Read>(input: &mut R, buf: &mut [u8]) -> io::Result<usize>
     ensures within { IfOk result (λ n. n ≤ length buf.new) }
     ensures bytes { IfOk result (λ n. Consumes (R.remaining input.old) (R.remaining input.new) (take n buf.new)) }

@@ -93,6 +93,8 @@ impl<'a> Line<'a> {
         (count <= limit).then_some(count)
     }
 
+    // A list is its length, at most N, and then its elements. A string is read by a loop of its own, since it has no space in front of
+    // each element, and goes on where the line is broken.
     pub fn list<T: FromLine + Default + Drop, const N: usize>(&mut self) -> Option<ArrayVec<T, N>> {
         let mut list = ArrayVec::new();
         for _ in 0..self.count(N)? {

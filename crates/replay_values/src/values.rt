@@ -14,7 +14,7 @@ pub fn float(bits: u32) -> f32
 {
     let magnitude = bits % 0x8000_0000;
     if magnitude > 0x7f80_0000 {
-        return 0.0 / 0.0;
+        return f32::NAN;
     }
     f32::from_bits(bits)
 }

@@ -1,13 +1,11 @@
--- `replay_values::values::float` meets its contract: the test on the bits is lib.Ieee's test for a NaN's. Assumes nothing.
+-- The test on the bits is lib.Ieee's test for a NaN's.
 use mathlib.Core.Path.{◌≡◌, refl, sym, ◌∙◌, subst}
 use mathlib.Core.Bool.{Bool, true, not, true≢false}
-use borrow.Author.Rules.{rules}
 use borrow.Author.Tests.{lt-ltb, le-ltb}
 use lib.Dec.{T}
 use lib.Ieee.{Float, nan, inf, fin, binary32, is_nan, of_bits, div}
 use lib.Ieee.Bits.{nan_bits_is, nan_bits_above}
-use Rattle.replay_values.proofs.values.float.Statement.{statement}
-use Rattle.replay_values.proofs.values.float.Tie as tie
+use Rattle.replay_values.proofs.values.float.Goals as goal
 
 of_nan : (x : Float) → is_nan x ≡ true → nan ≡ x
 unfolding is_nan
@@ -15,18 +13,12 @@ of_nan nan h = refl
 of_nan (inf s) h = absurd (true≢false (sym h))
 of_nan (fin s m e) h = absurd (true≢false (sym h))
 
-returns-then-magnitude-gt2139095040 : tie.Need-returns-then-magnitude-gt2139095040
+pub returns-then-magnitude-gt2139095040 : goal.returns-then-magnitude-gt2139095040
 unfolding div of_bits
 returns-then-magnitude-gt2139095040 c =
     let n = c.args.bits in
     of_nan (of_bits binary32 n) (sym (nan_bits_is binary32 n) ∙ nan_bits_above binary32 n ∙ lt-ltb _ _ c.if-magnitude-gt2139095040.true)
 
-float_from_bits-result : tie.Need-float_from_bits-result
+pub float_from_bits-result : goal.float_from_bits-result
 float_from_bits-result c =
     subst (λ (b : Bool). T (not b)) (sym (nan_bits_above binary32 c.args.bits ∙ le-ltb _ _ c.if-magnitude-gt2139095040.false)) tt
-
-returns : tie.Need-returns
-returns c = search rules
-
-pub float_spec : {M : Type 1} → statement M
-float_spec = tie.close (tie.spec returns-then-magnitude-gt2139095040 float_from_bits-result returns)
