@@ -9,8 +9,10 @@ ghost use Rattle.c_types.specs.Convert.{combiner_from};
 ghost use Rattle.c_draw.specs.Draws.{geometry_from, emitted_from, fragment_answer};
 
 use c_answers::no_color;
-use c_types::{Mode, Parts, combiner_of};
+use c_types::{Mode, Parts};
+use combiner::Combiner;
 use raster_pixel::{Fragment, Geometry};
+use raster_rectangle::Sides;
 use raster_vertex::Vertex;
 use state::Rgba;
 
@@ -34,32 +36,40 @@ pub struct FragmentAnswer {
     pub shade_alpha: f32,
 }
 
-pub fn geometry_of(p: GeometryParts) -> Geometry
-    ensures { result ≡ geometry_from p }
-{
-    let kind = p.kind;
-    match kind {
-        0 => Geometry::Nothing,
-        1 => Geometry::Triangles,
-        2 => Geometry::Rectangle(p.left, p.top, p.right, p.bottom),
-        _ => Geometry::Nothing,
+#[tactic(auto, unfolding(crate::specs::Draws::geometry_from))]
+impl From<GeometryParts> for Geometry {
+    ghost from_gives = { λ p r. r ≡ geometry_from p };
+
+    fn from(p: GeometryParts) -> Geometry {
+        match p.kind {
+            1 => Geometry::Triangles,
+            2 => Geometry::Rectangle(Sides {
+                left: p.left,
+                top: p.top,
+                right: p.right,
+                bottom: p.bottom,
+            }),
+            _ => Geometry::Nothing,
+        }
     }
 }
 
-fn emitted(fragment: Fragment) -> FragmentAnswer
-    ensures { result ≡ fragment_answer fragment }
-{
-    match fragment {
-        Fragment::Covered(mask, r, g, b, a, shade_alpha) => FragmentAnswer {
-            mask: mask as u32,
-            rgba: Rgba { r, g, b, a },
-            shade_alpha,
-        },
-        Fragment::Empty => FragmentAnswer {
-            mask: 0,
-            rgba: no_color(),
-            shade_alpha: 0.0,
-        },
+impl From<Option<Fragment>> for FragmentAnswer {
+    ghost from_gives = { λ fragment r. r ≡ fragment_answer fragment };
+
+    fn from(fragment: Option<Fragment>) -> FragmentAnswer {
+        match fragment {
+            Some(fragment) => FragmentAnswer {
+                mask: fragment.mask as u32,
+                rgba: fragment.color,
+                shade_alpha: fragment.shade_alpha,
+            },
+            None => FragmentAnswer {
+                mask: 0,
+                rgba: no_color(),
+                shade_alpha: 0.0,
+            },
+        }
     }
 }
 
@@ -86,8 +96,8 @@ pub fn admitted(
 ) -> bool
     ensures { result ≡ admitted_of (combiner_from combiner) (geometry_from geometry) vertices.now present.now indices.now }
 {
-    let k = combiner_of(combiner);
-    let g = geometry_of(geometry);
+    let k = Combiner::from(combiner);
+    let g = Geometry::from(geometry);
     raster_pixel::admitted(k, g, vertices, present, indices)
 }
 
@@ -106,9 +116,9 @@ pub fn pixel(
 ) -> FragmentAnswer
     ensures { result ≡ fragment_answer (emitted_from mode combiner cull geometry vertices.now present.now indices.now i y x) }
 {
-    let k = combiner_of(combiner);
-    let g = geometry_of(geometry);
-    emitted(c_emitted::pixel(
+    let k = Combiner::from(combiner);
+    let g = Geometry::from(geometry);
+    let fragment = c_emitted::pixel(
         mode.antialias,
         k,
         cull,
@@ -119,5 +129,6 @@ pub fn pixel(
         i,
         y,
         x,
-    ))
+    );
+    FragmentAnswer::from(fragment)
 }

@@ -8,6 +8,8 @@ use lib.Dec.{eqb}
 use lib.IntN.{nat_abs}
 use Rattle.state.specs.declared.RenderMode.{RenderMode}
 use Rattle.combiner.specs.declared.Combiner.{Combiner}
+use Rattle.std.specs.Prelude.{Option, None}
+use Rattle.raster_vertex.specs.declared.Triangle.{Triangle}
 use Rattle.raster_vertex.specs.declared.Vertex.{Vertex}
 use Rattle.raster_vertex.specs.Range.{in_range}
 use Rattle.raster_vertex.specs.Sorted.{sorted}
@@ -16,7 +18,6 @@ use Rattle.raster_edges.specs.Edge.{area_of}
 use Rattle.raster_edges.specs.Span.{tri_of, edges_of}
 use Rattle.raster_pixel.specs.declared.Scissor.{Scissor}
 use Rattle.raster_pixel.specs.declared.Fragment.{Fragment}
-use Rattle.raster_pixel.specs.declared.Fragment.TheVariants.{Empty}
 use Rattle.raster_admitted.specs.Check.{any}
 use Rattle.raster_pixel.specs.Emitted.{Emit, emits, inside, corner_of, triangle_fragment, triangle_emits}
 use Rattle.raster_pixel.proofs.Parts.{from_empty}
@@ -27,20 +28,20 @@ inside_empty : (s : Scissor) (w h : ℕ) → inside {A = Emit} s w h (λ (y x : 
 inside_empty s w h = from_empty _ _ _ (λ y p q. from_empty _ _ _ (λ x p q. refl))
 
 -- a test for all pixels may be asked at each
-inside_cond : (s : Scissor) (w h : ℕ) (t : Bool) (pixel : ℕ → ℕ → Fragment)
-    → cond t [] (inside s w h (λ (y x : ℕ). emits (pixel y x) (y * w + x))) ≡ inside s w h (λ (y x : ℕ). emits (cond t Empty (pixel y x)) (y * w + x))
+inside_cond : (s : Scissor) (w h : ℕ) (t : Bool) (pixel : ℕ → ℕ → Option Fragment)
+    → cond t [] (inside s w h (λ (y x : ℕ). emits (pixel y x) (y * w + x))) ≡ inside s w h (λ (y x : ℕ). emits (cond t None (pixel y x)) (y * w + x))
 inside_cond s w h true pixel = sym (inside_empty s w h)
 inside_cond s w h false pixel = refl
 
 -- A triangle whose vertices are in range emits what its pixels do, row by row and from left to right.
-pub triangle-emits : (m : RenderMode) (k : Combiner) (cull : Bool) (s : Scissor) (w h : ℕ) (a b c : Vertex)
-    → any (λ (v : Vertex). not (in_range v)) a b c ≡ false
-    → triangle_emits m k cull s w h a b c ≡ inside s w h (λ (y x : ℕ). emits (emitted_triangle m.antialias k cull a b c y x) (y * w + x))
+pub triangle-emits : (m : RenderMode) (k : Combiner) (cull : Bool) (s : Scissor) (w h : ℕ) (t : Triangle)
+    → any (λ (v : Vertex). not (in_range v)) t.a t.b t.c ≡ false
+    → triangle_emits m k cull s w h t.a t.b t.c ≡ inside s w h (λ (y x : ℕ). emits (emitted_triangle m.antialias k cull t y x) (y * w + x))
 unfolding triangle_emits emitted_triangle
-triangle-emits m k cull s w h a b c e =
-    let o = sorted (a ∷ b ∷ c ∷ []) in
+triangle-emits m k cull s w h t e =
+    let o = sorted (t.a ∷ t.b ∷ t.c ∷ []) in
     let corners = map corner_of o in
-    let t = culled_of cull a b c || eqb (nat_abs (area_of corners)) 0 in
-    let pixel : ℕ → ℕ → Fragment = λ y x. triangle_fragment m.antialias k o (edges_of (tri_of corners) y) y x in
-    inside_cond s w h t pixel
-    ∙ (λ i. inside s w h (λ (y x : ℕ). emits (cond (sym e i) Empty (cond t Empty (pixel y x))) (y * w + x)))
+    let skipped = culled_of cull t.a t.b t.c || eqb (nat_abs (area_of corners)) 0 in
+    let pixel : ℕ → ℕ → Option Fragment = λ y x. triangle_fragment m.antialias k o (edges_of (tri_of corners) y) y x in
+    inside_cond s w h skipped pixel
+    ∙ (λ i. inside s w h (λ (y x : ℕ). emits (cond (sym e i) None (cond skipped None (pixel y x))) (y * w + x)))

@@ -6,9 +6,8 @@ ghost use Rattle.std.specs.Prelude.{◌≡◌, ◌<◌};
 ghost use Rattle.c_emitted.specs.Emitted.{emitted_triangle, emitted_indexed, emitted_pixel};
 
 use combiner::Combiner;
-use raster_pixel::{Fragment, Geometry, Three};
-use raster_rectangle::Sides;
-use raster_vertex::Vertex;
+use raster_pixel::{Fragment, Geometry};
+use raster_vertex::Triangle;
 use rasterize_slow::Shape;
 
 // No frame is wider or higher.
@@ -19,23 +18,22 @@ fn triangle(
     antialias: bool,
     combiner: Combiner,
     cull: bool,
-    a: Vertex,
-    b: Vertex,
-    c: Vertex,
+    t: Triangle,
     y: u32,
     x: u32,
-) -> Fragment
+) -> Option<Fragment>
     requires { (x < 1024) × (y < 1024) }
-    ensures { result ≡ emitted_triangle antialias combiner cull a b c y x }
+    ensures { result ≡ emitted_triangle antialias combiner cull t y x }
 {
-    if raster_admitted::out_of_range(a, b, c) {
-        return Fragment::Empty;
+    if raster_admitted::out_of_range(t) {
+        return None;
     }
-    let shape = rasterize_slow::triangle(cull, a, b, c);
+    let shape = rasterize_slow::triangle(cull, t)?;
     rasterize_slow::pixel(antialias, combiner, shape, y, x)
 }
 
 // Pixel (x, y) of triangle i, if there is one.
+#[tactic(auto, unfolding(crate::specs::Emitted::emitted_indexed))]
 fn indexed(
     antialias: bool,
     combiner: Combiner,
@@ -46,21 +44,19 @@ fn indexed(
     i: usize,
     y: u32,
     x: u32,
-) -> Fragment
+) -> Option<Fragment>
     requires { (x < 1024) × (y < 1024) }
     ensures { result ≡ emitted_indexed antialias combiner cull vertices.now present.now indices.now i y x }
 {
-    let count = indices.len() / 3;
-    if count <= i {
-        return Fragment::Empty;
+    if indices.len() / 3 <= i {
+        return None;
     }
-    let Three::Vertices(a, b, c) = raster_pixel::triangle_at(vertices, present, indices, i) else {
-        return Fragment::Empty;
-    };
-    triangle(antialias, combiner, cull, a, b, c, y, x)
+    let t = raster_pixel::triangle_at(vertices, present, indices, i)?;
+    triangle(antialias, combiner, cull, t, y, x)
 }
 
 // Pixel (x, y) of triangle i of a draw, or of its rectangle.
+#[tactic(auto, unfolding(crate::specs::Emitted::emitted_pixel))]
 pub fn pixel(
     antialias: bool,
     combiner: Combiner,
@@ -72,24 +68,15 @@ pub fn pixel(
     i: usize,
     y: u32,
     x: u32,
-) -> Fragment
+) -> Option<Fragment>
     ensures { result ≡ emitted_pixel antialias combiner cull geometry vertices.now present.now indices.now i y x }
 {
-    if LIMIT <= x {
-        return Fragment::Empty;
-    }
-    if LIMIT <= y {
-        return Fragment::Empty;
+    if LIMIT <= x || LIMIT <= y {
+        return None;
     }
     match geometry {
-        Geometry::Nothing => Fragment::Empty,
-        Geometry::Rectangle(left, top, right, bottom) => {
-            let sides = Sides {
-                left,
-                top,
-                right,
-                bottom,
-            };
+        Geometry::Nothing => None,
+        Geometry::Rectangle(sides) => {
             rasterize_slow::pixel(antialias, combiner, Shape::Rectangle(sides), y, x)
         }
         Geometry::Triangles => indexed(

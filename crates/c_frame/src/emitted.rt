@@ -7,11 +7,12 @@ ghost use Rattle.frame_emitted.specs.Run.{pixels_means, emitted_run};
 ghost use Rattle.c_frame.specs.Frames.{draw_from, pixel_answer, listed_answer};
 
 use crate::engine_of;
-use c_draw::{GeometryParts, geometry_of};
-use c_types::{Mode, render_mode};
+use c_draw::GeometryParts;
+use c_types::Mode;
 use frame_emitted::{Emitted, Listed};
-use raster_pixel::Scissor;
-use state::CombinerUniform;
+use raster_pixel::{Geometry, Scissor};
+use refused::Refusal;
+use state::{CombinerUniform, RenderMode};
 
 // The number (docs/RULES.md), and an emitted pixel with its mask, zeros where there is none.
 #[repr(C)]
@@ -22,25 +23,27 @@ pub struct EmittedAnswer {
     pub mask: u32,
 }
 
-fn emitted(answer: Emitted) -> EmittedAnswer
-    ensures { result ≡ pixel_answer (pixel_means answer) }
-{
-    match answer {
-        Emitted::Pixel(pixel, mask) => EmittedAnswer {
-            number: 0,
-            pixel,
-            mask: mask as u32,
-        },
-        Emitted::Past => EmittedAnswer {
-            number: 0,
-            pixel: 0,
-            mask: 0,
-        },
-        Emitted::Refused(number) => EmittedAnswer {
-            number: number as u32,
-            pixel: 0,
-            mask: 0,
-        },
+impl From<Result<Option<Emitted>, Refusal>> for EmittedAnswer {
+    ghost from_gives = { λ answer r. r ≡ pixel_answer (pixel_means answer) };
+
+    fn from(answer: Result<Option<Emitted>, Refusal>) -> EmittedAnswer {
+        match answer {
+            Ok(Some(emitted)) => EmittedAnswer {
+                number: 0,
+                pixel: emitted.pixel,
+                mask: emitted.mask as u32,
+            },
+            Ok(None) => EmittedAnswer {
+                number: 0,
+                pixel: 0,
+                mask: 0,
+            },
+            Err(refusal) => EmittedAnswer {
+                number: refusal.number() as u32,
+                pixel: 0,
+                mask: 0,
+            },
+        }
     }
 }
 
@@ -53,20 +56,22 @@ pub struct ListedAnswer {
     pub emitted: u64,
 }
 
-fn listed(answer: Listed) -> ListedAnswer
-    ensures { (pixels masks : List ℕ) → result ≡ listed_answer (pixels_means answer pixels masks) }
-{
-    match answer {
-        Listed::Pixels(listed, emitted) => ListedAnswer {
-            number: 0,
-            listed,
-            emitted,
-        },
-        Listed::Refused(number) => ListedAnswer {
-            number: number as u32,
-            listed: 0,
-            emitted: 0,
-        },
+impl From<Result<Listed, Refusal>> for ListedAnswer {
+    ghost from_gives = { λ answer r. (pixels masks : List ℕ) → r ≡ listed_answer (pixels_means answer pixels masks) };
+
+    fn from(answer: Result<Listed, Refusal>) -> ListedAnswer {
+        match answer {
+            Ok(Listed { listed, emitted }) => ListedAnswer {
+                number: 0,
+                listed,
+                emitted,
+            },
+            Err(refusal) => ListedAnswer {
+                number: refusal.number() as u32,
+                listed: 0,
+                emitted: 0,
+            },
+        }
     }
 }
 
@@ -89,8 +94,8 @@ pub fn emitted_pixel(
 ) -> EmittedAnswer
     ensures { result ≡ pixel_answer (emitted_answer (draw_from mode uniform cull scissor geometry vertices present indices) width height (frame_of colors.now coverages.now marks.now) k) }
 {
-    let m = render_mode(mode);
-    let g = geometry_of(geometry);
+    let m = RenderMode::from(mode);
+    let g = Geometry::from(geometry);
     let answer = frame_emitted::emitted_pixel(
         engine_of(engine),
         width,
@@ -108,7 +113,7 @@ pub fn emitted_pixel(
         indices,
         k,
     );
-    emitted(answer)
+    EmittedAnswer::from(answer)
 }
 
 pub fn emitted_pixels(
@@ -137,8 +142,8 @@ pub fn emitted_pixels(
     ensures masks { let d = draw_from mode uniform cull scissor geometry vertices present indices in
         new masks ≡ (emitted_run d width height (frame_of colors.now coverages.now marks.now) first (old pixels) (old masks)).masks }
 {
-    let m = render_mode(mode);
-    let g = geometry_of(geometry);
+    let m = RenderMode::from(mode);
+    let g = Geometry::from(geometry);
     let answer = frame_emitted::emitted_pixels(
         engine_of(engine),
         width,
@@ -158,5 +163,5 @@ pub fn emitted_pixels(
         pixels,
         masks,
     );
-    listed(answer)
+    ListedAnswer::from(answer)
 }

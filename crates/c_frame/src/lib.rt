@@ -6,19 +6,18 @@ ghost use Rattle.std.specs.Prelude.{◌≡◌, []};
 ghost use Rattle.frame.specs.Frame.{frame_of};
 ghost use Rattle.frame.specs.Lent.{old, new, before, after};
 ghost use Rattle.frame_draw.specs.Draw.{drawn_means, draw_answer, draw_frame};
-ghost use Rattle.words_read.specs.Read.{word_means, read_answer};
+ghost use Rattle.words_read.specs.Read.{read_answer};
 ghost use Rattle.words_run.specs.Run.{run_means, run_answer};
 ghost use Rattle.c_frame.specs.Engines.{engine_of};
 ghost use Rattle.c_frame.specs.Frames.{draw_from, read_from, drawn_answer, word_answer, ran_answer};
 
 use c_answers::Answer;
-use c_draw::{GeometryParts, geometry_of};
-use c_types::{Mode, byte_order, render_mode};
-use frame_draw::{Drawn, Engine};
-use raster_pixel::Scissor;
-use state::CombinerUniform;
-use words_read::Word;
-use words_run::Run;
+use c_draw::GeometryParts;
+use c_types::{Mode, byte_order};
+use frame_draw::Engine;
+use raster_pixel::{Geometry, Scissor};
+use refused::Refusal;
+use state::{CombinerUniform, RenderMode};
 
 pub mod emitted; // the emitted pixels of a draw
 
@@ -40,15 +39,17 @@ pub struct DrawnAnswer {
     pub pixels: u64,
 }
 
-fn drawn(answer: Drawn) -> DrawnAnswer
-    ensures { result ≡ drawn_answer (drawn_means answer) }
-{
-    match answer {
-        Drawn::Emitted(pixels) => DrawnAnswer { number: 0, pixels },
-        Drawn::Refused(number) => DrawnAnswer {
-            number: number as u32,
-            pixels: 0,
-        },
+impl From<Result<u64, Refusal>> for DrawnAnswer {
+    ghost from_gives = { λ answer r. r ≡ drawn_answer (drawn_means answer) };
+
+    fn from(answer: Result<u64, Refusal>) -> DrawnAnswer {
+        match answer {
+            Ok(pixels) => DrawnAnswer { number: 0, pixels },
+            Err(refusal) => DrawnAnswer {
+                number: refusal.number() as u32,
+                pixels: 0,
+            },
+        }
     }
 }
 
@@ -60,30 +61,17 @@ pub struct RanAnswer {
     pub words: u64,
 }
 
-fn ran(answer: Run) -> RanAnswer
-    ensures { result ≡ ran_answer (run_means answer [] []) }
-{
-    match answer {
-        Run::Read(words) => RanAnswer { number: 0, words },
-        Run::Refused(number) => RanAnswer {
-            number: number as u32,
-            words: 0,
-        },
-    }
-}
+impl From<Result<u64, Refusal>> for RanAnswer {
+    ghost from_gives = { λ answer r. r ≡ ran_answer (run_means answer [] []) };
 
-fn word(answer: Word) -> Answer
-    ensures { result ≡ word_answer (word_means answer) }
-{
-    match answer {
-        Word::Bytes(first, second) => Answer {
-            number: 0,
-            value: (first as u32) + (second as u32) * 256,
-        },
-        Word::Refused(number) => Answer {
-            number: number as u32,
-            value: 0,
-        },
+    fn from(answer: Result<u64, Refusal>) -> RanAnswer {
+        match answer {
+            Ok(words) => RanAnswer { number: 0, words },
+            Err(refusal) => RanAnswer {
+                number: refusal.number() as u32,
+                words: 0,
+            },
+        }
     }
 }
 
@@ -106,8 +94,8 @@ pub fn draw(
     ensures answer { result ≡ drawn_answer (draw_answer (draw_from mode uniform cull scissor geometry vertices present indices) width height (before colors coverages marks)) }
     ensures frame { after colors coverages marks ≡ draw_frame (draw_from mode uniform cull scissor geometry vertices present indices) width height (before colors coverages marks) }
 {
-    let m = render_mode(mode);
-    let g = geometry_of(geometry);
+    let m = RenderMode::from(mode);
+    let g = Geometry::from(geometry);
     let answer = frame_draw::draw(
         engine_of(engine),
         width,
@@ -124,7 +112,7 @@ pub fn draw(
         present,
         indices,
     );
-    drawn(answer)
+    DrawnAnswer::from(answer)
 }
 
 pub fn read_word(
@@ -142,9 +130,10 @@ pub fn read_word(
     ensures { result ≡ word_answer (read_answer (read_from pixel fmt siz rgb_dither big_endian) width height (frame_of colors.now coverages.now marks.now)) }
 {
     let order = byte_order(big_endian);
-    word(words_read::read_word(
+    let answer = words_read::read_word(
         width, height, colors, coverages, marks, pixel, fmt, siz, rgb_dither, order,
-    ))
+    );
+    Answer::from(answer)
 }
 
 pub fn read_words(
@@ -169,5 +158,5 @@ pub fn read_words(
     let answer = words_run::read_words(
         width, height, colors, coverages, marks, first, fmt, siz, rgb_dither, order, words, numbers,
     );
-    ran(answer)
+    RanAnswer::from(answer)
 }

@@ -1,3 +1,0 @@
--- Facts that proofs of `c_frame` rest on.
-pub mod Runs
-pub mod Lists
