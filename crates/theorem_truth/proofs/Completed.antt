@@ -5,7 +5,7 @@ use mathlib.Core.Bool.{Bool, true, false, cond}
 use mathlib.Core.List.{List, [], ◌∷◌}
 use native.Mathlib.Omega.{arith}
 use lib.ListN.{length, get_or}
-use Rattle.blender.specs.declared.Coverage.TheVariants.{Unknown, Known}
+use Rattle.std.specs.Prelude.{Some, None}
 use Rattle.blender.specs.Blend.{or_zero}
 use Rattle.frame_pixel.specs.Marks.{highest_mark, color_marked, coverage_marked, mark_of}
 use Rattle.frame_pixel.specs.Knows.{KnowsPixel, AllKnownPixel}
@@ -113,11 +113,11 @@ module _ (f : Frame) (colors coverages : ℕ → ℕ) where
           sound = λ p. bound (coverage_marked (get_or whole.marks p 0)) _ (byte p);
         }
       where
-        bound : (b : Bool) (c : ℕ) → c ≤ 7 → or_zero (cond b (Known c) Unknown) ≤ 7
+        bound : (b : Bool) (c : ℕ) → c ≤ 7 → or_zero (cond b (Some c) None) ≤ 7
         bound true c l = l
         bound false c l = omega arith
 
-        of_sound : (b : Bool) (c : ℕ) → or_zero (cond b (Known c) Unknown) ≤ 7 → b ≡ true → c ≤ 7
+        of_sound : (b : Bool) (c : ℕ) → or_zero (cond b (Some c) None) ≤ 7 → b ≡ true → c ≤ 7
         of_sound true c l t = l
         of_sound false c l t = never t
 

@@ -8,11 +8,11 @@ use native.Mathlib.Omega.{arith}
 use borrow.Author.Tests.{eqb-true}
 use lib.Dec.{eqb, ltb, leb}
 use lib.ListN.{length, get_or}
-use Rattle.blender.specs.declared.Coverage.{Coverage}
+use Rattle.blender.specs.Coverage.{Coverage}
 use Rattle.blender.specs.Blend.{or_zero}
 use Rattle.words_pack.specs.declared.Bytes2.{Bytes2}
 use Rattle.words_pack.specs.declared.FramebufferEncoding.{FramebufferEncoding}
-use Rattle.words_pack.specs.declared.Literal.TheVariants.{Absent}
+use Rattle.std.specs.Prelude.{None}
 use Rattle.state.specs.declared.Rgba8.{Rgba8}
 use Rattle.words_pack.specs.Writer.{color_supported, supported_of, pixel_bytes_of, color_of, written_of, encode_of}
 use Rattle.frame_pixel.specs.declared.Pixel.{Pixel}
@@ -29,7 +29,7 @@ use Rattle.theorem_truth.specs.Truth.{TellsWord, TellsEntries, TellsRun}
 -- ---- a word read
 one_byte :
     (w fmt : ℕ) (c : Rgba8) (i j pixel dither : ℕ) (e : FramebufferEncoding)
-    → encode_of (writer_by w fmt 1) c i pixel Absent dither e ≡ encode_of (writer_by w fmt 1) c j pixel Absent dither e
+    → encode_of (writer_by w fmt 1) c i pixel None dither e ≡ encode_of (writer_by w fmt 1) c j pixel None dither e
 unfolding encode_of written_of color_of pixel_bytes_of
 one_byte w fmt c i j pixel dither e = refl
 
@@ -67,10 +67,10 @@ module _ {y x : Pixel} (h : KnowsPixel y x) where
     unfolding word_of
     same_word =
         go (eqb r.siz 2) refl (coverage_marked x.mark) refl (both_right (color_marked x.mark) (coverage_marked x.mark || not (eqb r.siz 2)) t)
-        ∙ ap (λ (c : Rgba8). encode_of (writer_of r w) c (or_zero (coverage_of x.mark x.coverage)) r.pixel Absent r.dither r.encoding) (same_color (both_left _ _ t))
+        ∙ ap (λ (c : Rgba8). encode_of (writer_of r w) c (or_zero (coverage_of x.mark x.coverage)) r.pixel None r.dither r.encoding) (same_color (both_left _ _ t))
       where
         word : Coverage → Bytes2
-        word c = encode_of (writer_of r w) (bytes_of y) (or_zero c) r.pixel Absent r.dither r.encoding
+        word c = encode_of (writer_of r w) (bytes_of y) (or_zero c) r.pixel None r.dither r.encoding
 
         go :
             (two : Bool) → eqb r.siz 2 ≡ two → (m : Bool) → coverage_marked x.mark ≡ m → (m || not two) ≡ true
@@ -80,8 +80,8 @@ module _ {y x : Pixel} (h : KnowsPixel y x) where
         go false e false s q =
             subst
             (λ (siz : ℕ).
-            encode_of (writer_by w r.fmt siz) (bytes_of y) (or_zero (coverage_of y.mark y.coverage)) r.pixel Absent r.dither r.encoding
-            ≡ encode_of (writer_by w r.fmt siz) (bytes_of y) (or_zero (coverage_of x.mark x.coverage)) r.pixel Absent r.dither r.encoding)
+            encode_of (writer_by w r.fmt siz) (bytes_of y) (or_zero (coverage_of y.mark y.coverage)) r.pixel None r.dither r.encoding
+            ≡ encode_of (writer_by w r.fmt siz) (bytes_of y) (or_zero (coverage_of x.mark x.coverage)) r.pixel None r.dither r.encoding)
             (sym (size_one r w supported e))
             (one_byte w r.fmt (bytes_of y) _ _ r.pixel r.dither r.encoding)
 

@@ -1,15 +1,13 @@
 -- Inner vocabulary. Wrong rules, each the step with one thing changed, and a small input on which it breaks the law of one pixel, so that what each one changes is needed.
 -- Definitions only; that they break it is proofs/Wrong.
-use Rattle.std.specs.Prelude.{ℕ, ◌-◌, Bool, true, false, cond, not, ◌&&◌, ◌||◌, eqb, pos}
+use Rattle.std.specs.Prelude.{ℕ, ◌-◌, Bool, true, false, cond, not, ◌&&◌, ◌||◌, eqb, pos, Some, None}
 use Rattle.std.specs.Float.{fin}
 use Rattle.num_float.specs.Color.{f0, f1}
 use Rattle.state.specs.declared.RenderMode.{RenderMode}
 use Rattle.combiner_inputs.specs.Combine.{cycle1}
 use Rattle.combiner.specs.declared.Combiner.{Combiner}
-use Rattle.blender.specs.declared.Coverage.{Coverage}
-use Rattle.blender.specs.declared.Coverage.TheVariants.{Unknown, Known}
 use Rattle.blender.specs.declared.Source.{Source}
-use Rattle.blender.specs.Coverage.{destination_of}
+use Rattle.blender.specs.Coverage.{Coverage, destination_of}
 use Rattle.frame_pixel.specs.declared.Pixel.{Pixel}
 use Rattle.frame_pixel.specs.Marks.{color_marked, mark_of}
 use Rattle.frame_pixel.specs.Rules.{rule_f1, rule_f2, memory_of, rule_f3, rule_f4, rule_f5, coverage_byte, coverage_at, known_after, colors_after, coverage_after, assembled}
@@ -37,19 +35,19 @@ stale_kept mode k s x = assembled (known_after mode s x || color_marked x.mark) 
 
 -- F5 with count - 1 under antialias too
 abbrev pub count_stored : RenderMode → ℕ → Coverage → Coverage
-count_stored mode n (Known c) = rule_f5 mode n (Known c)
-count_stored mode n Unknown = cond (eqb mode.cvg_dst 0 && not mode.force_blend) (Known (n - 1)) (rule_f5 mode n Unknown)
+count_stored mode n (Some c) = rule_f5 mode n (Some c)
+count_stored mode n None = cond (eqb mode.cvg_dst 0 && not mode.force_blend) (Some (n - 1)) (rule_f5 mode n None)
 
 unfoldable pub count_under_antialias : RenderMode → Combiner → Source → Pixel → Pixel
 count_under_antialias mode k s x = assembled (known_after mode s x) (colors_after mode k s x) (count_stored mode s.count (coverage_at x)) x.coverage
 
 -- F5 with `destination` asked of memory coverages 1 to 7 alone
 abbrev pub seven_asked : RenderMode → ℕ → Coverage → Coverage
-seven_asked mode n (Known c) = rule_f5 mode n (Known c)
-seven_asked mode n Unknown =
+seven_asked mode n (Some c) = rule_f5 mode n (Some c)
+seven_asked mode n None =
     let number = destination_of mode n 1 in
     let asked : ℕ → Bool = λ c. eqb (destination_of mode n c) number in
-    cond (asked 1 && asked 2 && asked 3 && asked 4 && asked 5 && asked 6 && asked 7) (Known number) Unknown
+    cond (asked 1 && asked 2 && asked 3 && asked 4 && asked 5 && asked 6 && asked 7) (Some number) None
 
 unfoldable pub without_zero : RenderMode → Combiner → Source → Pixel → Pixel
 without_zero mode k s x = assembled (known_after mode s x) (colors_after mode k s x) (seven_asked mode s.count (coverage_at x)) x.coverage

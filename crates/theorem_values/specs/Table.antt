@@ -136,7 +136,7 @@ draw antialias geometry vertices present indices =
     draw_args (mode 0 false antialias 0) uniform false (record { left = 0; top = 0; width = 2; height = 2 }) geometry vertices present indices
 
 abbrev pub draw_sides : Bool → DrawArgs
-draw_sides antialias = draw antialias (Rectangle sides.left sides.top sides.right sides.bottom) [] [] []
+draw_sides antialias = draw antialias (Rectangle sides) [] [] []
 
 -- vertices as a draw carries them
 abbrev pub floats : List Vertex → List Float
