@@ -42,7 +42,7 @@ fn draw_rectangle(
         marks,
         paint,
         None,
-        sides.outline(),
+        raster_rectangle::outline(sides),
         scissor,
         width,
         height,
