@@ -1,6 +1,6 @@
 -- To be believed. A draw: it is turned away with a number, or carried out on the pixels that it emits. Definitions only. Source: docs/RULES.md, A draw, Rules F1 to F5
 -- and The numbers.
-use Rattle.std.specs.Prelude.{ℕ, zero, suc, ◌≤◌, Bool, cond, List, Float, length, Option, Some, None, Result, Ok, Err}
+use Rattle.std.specs.Prelude.{ℕ, zero, suc, ◌≤◌, Bool, List, Float, length, Option, Some, None, Result, Ok, Err, if◌then◌else◌}
 use Rattle.state.specs.declared.RenderMode.{RenderMode}
 use Rattle.state.specs.declared.CombinerUniform.{CombinerUniform}
 use Rattle.combiner.specs.declared.Combiner.{Combiner}
@@ -57,7 +57,7 @@ emitted_by d w h k = geometry_emits d.mode k d.cull d.scissor w h d.vertices d.p
 -- 7: the geometry is nothing, or `admitted` answers false
 abbrev pub admitted_plan : DrawArgs → ℕ → ℕ → Combiner → Plan
 admitted_plan d w h k =
-    cond (admitted_of k d.geometry d.vertices d.present d.indices) (Plan.accept k (emitted_by d w h k)) (Plan.refuse 7)
+    if admitted_of k d.geometry d.vertices d.present d.indices then Plan.accept k (emitted_by d w h k) else Plan.refuse 7
 
 -- 6: `Combiner::new` answers None
 abbrev pub made_plan : DrawArgs → ℕ → ℕ → Option Combiner → Plan

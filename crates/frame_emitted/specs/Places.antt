@@ -1,5 +1,5 @@
 -- Inner vocabulary. The pixels of a draw in their slots, as the code finds them. Definitions only.
-use Rattle.std.specs.Prelude.{ℕ, ◌+◌, ◌<◌, ◌≡◌, List, length, get_or, Option, Some, None}
+use Rattle.std.specs.Prelude.{ℕ, ◌+◌, ◌<◌, ◌≡◌, List, length, Option, Some, None, slice_index_or}
 use Rattle.raster_emitted.specs.Masked.{Masked, no_pixel}
 use Rattle.raster_emitted.specs.Listed.{slots_of, slot_at}
 use Rattle.frame_emitted.specs.declared.Emitted.{Emitted}
@@ -18,4 +18,4 @@ pub record ListedAll (es : List Masked) (first n : ℕ) (before pixels masks : L
   pub count : n ≡ length es
   pub pixels_long : length pixels ≡ length before
   pub masks_long : length masks ≡ length before
-  pub slots : (i : ℕ) → i < length before → slot_at (slots_of pixels masks) i ≡ get_or es (first + i) no_pixel
+  pub slots : (i : ℕ) → i < length before → slot_at (slots_of pixels masks) i ≡ slice_index_or es (first + i) no_pixel

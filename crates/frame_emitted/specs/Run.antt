@@ -1,6 +1,6 @@
 -- To be believed. A run of emitted pixels: the single answers to k = first, first + 1, .. one after the other, into lent slices for their pixels and their masks. Definitions
 -- only. Source: docs/RULES.md, Emitted pixels by themselves.
-use Rattle.std.specs.Prelude.{ℕ, zero, suc, ◌+◌, ◌-◌, ◌≤◌, min, cond, List, [], ◌∷◌, map, eqb, length, Result, Ok, Err}
+use Rattle.std.specs.Prelude.{ℕ, zero, suc, ◌+◌, ◌-◌, ◌≤◌, min, List, [], ◌∷◌, map, length, Result, Ok, Err, if◌then◌else◌, ◌==◌}
 use Rattle.refused.specs.declared.Refusal.{Refusal}
 use Rattle.refused.specs.Numbers.{number_of}
 use Rattle.raster_pixel.specs.Parts.{from}
@@ -36,7 +36,7 @@ abbrev pub unequal : ℕ
 unequal = 20
 
 abbrev pub pixels_refusal : DrawArgs → ℕ → ℕ → Frame → List ℕ → List ℕ → ℕ
-pixels_refusal d w h f ps ms = or_else (draw_answer d w h f).number (cond (eqb (length ps) (length ms)) 0 unequal)
+pixels_refusal d w h f ps ms = or_else (draw_answer d w h f).number (if length ps == length ms then 0 else unequal)
 
 -- accepted, a slot for each single answer. The draw's count is what `draw` would answer; the slots that have a pixel are the first ones, as many as the draw has from place
 -- first on (none where first is past its count), and no more than there are

@@ -2,7 +2,7 @@
 // nothing is drawn.
 #![tactic(auto)]
 
-ghost use Rattle.std.specs.Prelude.{◌≡◌, ◌≤◌, length, get_or, Ok};
+ghost use Rattle.std.specs.Prelude.{◌≡◌, ◌≤◌, length, Ok, if◌then◌else◌, slice_index_or};
 ghost use Rattle.raster_pixel.specs.declared.Geometry.TheVariants.{Triangles};
 ghost use Rattle.raster_pixel.specs.Area.{Sized};
 ghost use Rattle.raster_pixel.specs.Near.{TrianglesNear};
@@ -100,7 +100,7 @@ fn pixel_at(
     requires sized { Sized scissor width height × Mixed combiner }
     requires near { geometry ≡ Triangles → TrianglesNear vertices.now present.now indices.now }
     requires few { length (geometry_masks mode.antialias cull scissor width height vertices.now present.now indices.now geometry) ≤ largest_count }
-    ensures result_value { pixel_means (Ok result) ≡ pixel_of (get_or (geometry_masks mode.antialias cull scissor width height vertices.now present.now indices.now geometry) k no_pixel) }
+    ensures result_value { pixel_means (Ok result) ≡ pixel_of (slice_index_or (geometry_masks mode.antialias cull scissor width height vertices.now present.now indices.now geometry) k no_pixel) }
     ensures found_at { FoundAt (geometry_masks mode.antialias cull scissor width height vertices.now present.now indices.now geometry) k result }
 {
     let mut pixels = [0u32; 1];

@@ -1,5 +1,5 @@
 -- Inner vocabulary. What a part of a walk does with the pixels that it emits: they are drawn on the frame, if the walk draws, and go to their slots. Definitions only.
-use Rattle.std.specs.Prelude.{ℕ, ◌≤◌, ◌≡◌, true, cond, List, map, length}
+use Rattle.std.specs.Prelude.{ℕ, ◌≤◌, ◌≡◌, true, List, map, length, if◌then◌else◌}
 use Rattle.std.specs.Borrow.{MutBor}
 use Rattle.raster_pixel.specs.Emitted.{Emit}
 use Rattle.raster_emitted.specs.Masked.{masked_of}
@@ -25,7 +25,7 @@ pub record Open (v : Walk) (n : ℕ) (f : Frame) (s : Slots) : Type 0 where
 
 -- what the pixels es do, of which the first is the draw's n-th; afterwards there are m
 pub record Sent (v : Walk) (es : List Emit) (n m : ℕ) (f g : Frame) (s t : Slots) : Type 0 where
-  pub drawn : g ≡ cond v.draws (draw_list v.mode v.combiner f es) f
+  pub drawn : g ≡ (if v.draws then draw_list v.mode v.combiner f es else f)
   pub colors : length g.colors ≡ length f.colors
   pub coverages : length g.coverages ≡ length f.coverages
   pub marks : length g.marks ≡ length f.marks

@@ -1,6 +1,6 @@
 -- Inner vocabulary. A shape as the slow engine has it, sample by sample, and what its pixels emit. Definitions only; that these are the pixels of raster_pixel/specs/Emitted
 -- is proofs/Emitted.
-use Rattle.std.specs.Prelude.{ℕ, ◌+◌, ◌*◌, ◌/◌, ◌<◌, Bool, cond, ◌||◌, List, [], ◌∷◌, map, eqb, nat_abs, Float, length, Option, None, Some}
+use Rattle.std.specs.Prelude.{ℕ, ◌+◌, ◌*◌, ◌/◌, ◌<◌, Bool, ◌||◌, List, [], ◌∷◌, map, nat_abs, Float, length, Option, None, Some, if◌then◌else◌, ◌==◌}
 use Rattle.state.specs.declared.Rgba.{Rgba}
 use Rattle.combiner.specs.declared.Combiner.{Combiner}
 use Rattle.combiner.specs.Combine.{color_of, full_shade}
@@ -46,7 +46,7 @@ shape_shade (Rectangle s) y x = full_shade
 
 unfoldable pub shape_fragment : Bool → Combiner → Shape → ℕ → ℕ → Option Fragment
 shape_fragment antialias k shape y x =
-    cond (shown antialias (shape_mask shape y x)) (covered (shape_mask shape y x) (color_of k (shape_shade shape y x)) (shape_shade shape y x).a) None
+    if shown antialias (shape_mask shape y x) then covered (shape_mask shape y x) (color_of k (shape_shade shape y x)) (shape_shade shape y x).a else None
 
 -- what is emitted has a sample
 abbrev pub HasSample : Option Fragment → Type 0
@@ -69,7 +69,7 @@ unfoldable pub triangle_shape : Bool → Vertex → Vertex → Vertex → Option
 triangle_shape cull a b c =
     let o = sorted (a ∷ b ∷ c ∷ []) in
     let corners = map corner_of o in
-    cond (culled_of cull a b c || eqb (nat_abs (area_of corners)) 0) None (Some (Triangle (tri_of corners) o))
+    if culled_of cull a b c || nat_abs (area_of corners) == 0 then None else Some (Triangle (tri_of corners) o)
 
 abbrev pub three_shape : Bool → Option vertices.Triangle → Option Shape
 three_shape cull None = None

@@ -4,7 +4,7 @@
 // walks through it on one triangle.
 #![tactic(auto)]
 
-ghost use Rattle.std.specs.Prelude.{◌≡◌, true, cond, ◌/◌, ◌<◌, ◌≤◌, length};
+ghost use Rattle.std.specs.Prelude.{◌≡◌, true, ◌/◌, ◌<◌, ◌≤◌, length, if◌then◌else◌, ◌==◌};
 ghost use Rattle.frame.specs.Lent.{lent, before, after};
 ghost use Rattle.frame.specs.Fits.{Fit};
 ghost use Rattle.frame_paint.specs.Pixel.{Room, DrewOn, emit_of};
@@ -162,7 +162,7 @@ fn draw_pixel(
     requires mask_nonzero { 0 < fragment.mask }
     requires pixel_in_bounds { walk.draws ≡ true → (pixel < length marks.old) × Fit (length marks.old) (lent colors coverages marks) }
     ensures { let f = before colors coverages marks in
-        after colors coverages marks ≡ cond walk.draws (step_frame walk.mode walk.combiner f (emit_of pixel fragment.mask fragment.color fragment.shade_alpha)) f }
+        after colors coverages marks ≡ (if walk.draws then step_frame walk.mode walk.combiner f (emit_of pixel fragment.mask fragment.color fragment.shade_alpha) else f) }
 {
     if !walk.draws {
         return;
