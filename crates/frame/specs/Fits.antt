@@ -40,6 +40,10 @@ known_pixel x =
       mark = x.mark;
     }
 
+-- a byte stored, if it is known
+abbrev pub put_if : Bool → List ℕ → ℕ → ℕ → List ℕ
+put_if known l i v = if known then set l i v else l
+
 -- a pixel's colour stored, if it is known
 abbrev pub with_colors : List ℕ → ℕ → Option Colors → List ℕ
 with_colors colors p None = colors

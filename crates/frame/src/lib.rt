@@ -5,10 +5,10 @@
 ghost use Rattle.std.specs.Prelude.{◌≡◌, ◌+◌, ◌*◌, ◌<◌, length};
 ghost use Rattle.frame.specs.Frame.{pixel_at, frame_of};
 ghost use Rattle.frame.specs.Lent.{old, new, lent, before, after};
-ghost use Rattle.frame.specs.Fits.{Long, known_pixel, with_colors, with_coverage, stored_at, put_known};
+ghost use Rattle.frame.specs.Fits.{Long, known_pixel, put_if, stored_at, put_known};
+ghost use Rattle.std.specs.Bool.{then_some};
 ghost use Rattle.frame.specs.Loads.{Loadable};
 
-use blender::Coverage;
 use frame_pixel::{Colors, Pixel};
 
 pub mod load; // the loads of colour and coverage bytes
@@ -31,45 +31,38 @@ pub fn known_pixel(colors: &[u8], coverages: &[u8], marks: &[u8], pixel: usize) 
     }
 }
 
-// Stores a pixel's colour, if it is known.
-fn put_colors(colors: &mut [u8], pixel: usize, color: Option<Colors>)
-    requires { 3 * pixel + 2 < length colors.old }
-    ensures { new colors ≡ with_colors (old colors) pixel color }
+// Stores a byte that is known.
+fn put_byte(bytes: &mut [u8], at: usize, known: bool, byte: u8)
+    requires { at < length bytes.old }
+    ensures { new bytes ≡ put_if known (old bytes) at byte }
 {
-    if let Some(color) = color {
-        let at = 3 * pixel;
-        colors[at] = color.red;
-        colors[at + 1] = color.green;
-        colors[at + 2] = color.blue;
+    if known {
+        bytes[at] = byte;
     }
 }
 
-// Stores a pixel's coverage, if it is given.
-fn put_coverage(coverages: &mut [u8], pixel: usize, coverage: Coverage)
-    requires { pixel < length coverages.old }
-    ensures { new coverages ≡ with_coverage (old coverages) pixel coverage }
-{
-    if let Some(coverage) = coverage {
-        coverages[pixel] = coverage;
-    }
-}
-
-// Stores a pixel: its colours if they are known, its coverage if it is given, and its mark.
+// Stores a pixel: its colours if they are known, its coverage if it is given, and its mark. Flags with values beside them: with an Option for each, a run of pixels laid
+// over the memory's colour takes a twelfth longer.
 pub fn store(
     colors: &mut [u8],
     coverages: &mut [u8],
     marks: &mut [u8],
     pixel: usize,
-    color: Option<Colors>,
-    coverage: Coverage,
+    known: bool,
+    new: Colors,
+    covers: bool,
+    coverage: u8,
     mark: u8,
 )
     requires pixel_in_bounds { pixel < length marks.old }
     requires long { Long (lent colors coverages marks) }
-    ensures { after colors coverages marks ≡ stored_at (before colors coverages marks) pixel color coverage mark }
+    ensures { after colors coverages marks ≡ stored_at (before colors coverages marks) pixel (then_some known new) (then_some covers coverage) mark }
 {
-    put_colors(colors, pixel, color);
-    put_coverage(coverages, pixel, coverage);
+    let at = 3 * pixel;
+    put_byte(colors, at, known, new.red);
+    put_byte(colors, at + 1, known, new.green);
+    put_byte(colors, at + 2, known, new.blue);
+    put_byte(coverages, pixel, covers, coverage);
     marks[pixel] = mark;
 }
 
@@ -96,8 +89,10 @@ pub fn put_pixel(
         coverages,
         marks,
         pixel,
-        frame_pixel::color_marked(mark).then_some(color),
-        frame_pixel::coverage_marked(mark).then_some(bytes.coverage),
+        frame_pixel::color_marked(mark),
+        color,
+        frame_pixel::coverage_marked(mark),
+        bytes.coverage,
         mark,
     );
 }

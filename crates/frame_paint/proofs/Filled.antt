@@ -22,7 +22,7 @@ use Rattle.frame_pixel.specs.Full.{FullOf, Enough, full_known, full_coverage, fu
 use Rattle.frame_pixel.proofs.Fulls.{full-step}
 use Rattle.raster_pixel.specs.Parts.{parts, from}
 use Rattle.frame.specs.Frame.{Frame, frame_of, pixel_at, put_pixel}
-use Rattle.frame.specs.Fits.{Long, Fit, with_colors, with_coverage, colors_at, stored_at}
+use Rattle.frame.specs.Fits.{Long, Fit, with_colors, with_coverage, colors_at, colors_if, stored_at}
 use Rattle.frame_paint.specs.Steps.{source_of, step_frame}
 use Rattle.frame_paint.specs.Pixel.{Drew, emit_of}
 use Rattle.frame_paint.specs.Row as row
@@ -45,6 +45,16 @@ full-colors true true o cs p over own h = refl
 full-colors true false o cs p over own h = sym (three_back cs (3 * p) h)
 full-colors false marked true cs p over own h = refl
 full-colors false marked false cs p over own h = sym (three_back cs (3 * p) h)
+
+-- its bytes and whether they are known, as an option
+pub full-given : (l marked o : Bool) (over : Colors → Colors) (memory own : Colors) → then_some (cond l marked o) (cond l (over (colors_if marked memory)) own) ≡ cond l (cond marked (Some (over memory)) None) (then_some o own)
+full-given true true o over memory own = refl
+full-given true false o over memory own = refl
+full-given false marked o over memory own = refl
+
+pub is_some-then_some : {A : Type 0} (b : Bool) (x : A) → is_some (then_some b x) ≡ b
+is_some-then_some true x = refl
+is_some-then_some false x = refl
 
 full-known : (l marked o : Bool) (over own : Colors) → is_some (cond l (cond marked (Some over) None) (then_some o own)) ≡ cond l marked o
 full-known true true o over own = refl

@@ -1,42 +1,44 @@
 // A run of pixels of one colour, each with all its samples: no sample is tested, and what does not turn on the pixel was worked out before.
-ghost use Rattle.std.specs.Prelude.{◌≡◌, true, false, ◌+◌, ◌<◌, ◌≤◌, length, if◌then◌else◌, slice_index};
+ghost use Rattle.std.specs.Prelude.{◌≡◌, true, false, ◌||◌, ◌+◌, ◌<◌, ◌≤◌, length, if◌then◌else◌, slice_index};
 ghost use Rattle.raster_pixel.specs.Parts.{from};
 ghost use Rattle.frame_pixel.specs.Marks.{color_marked, mark_of};
+ghost use Rattle.frame_pixel.specs.Coloring.{over_colors};
 ghost use Rattle.frame.specs.Lent.{lent, before, after};
-ghost use Rattle.frame.specs.Fits.{Long, colors_at};
+ghost use Rattle.frame.specs.Fits.{Long, colors_at, colors_if};
 ghost use Rattle.frame.specs.Loads.{ColorThere};
 ghost use Rattle.frame_paint.specs.Pixel.{DrewOn, Room};
 ghost use Rattle.frame_paint.specs.Paint.{Prepared};
-ghost use Rattle.frame_paint.specs.Row.{full_color, filled_at, full_at};
+ghost use Rattle.frame_paint.specs.Row.{filled_at, full_at};
 
 use crate::prepare::Paint;
 use frame_pixel::Colors;
 use frame_pixel::full::{FULL_COVERAGE, Full};
 
-// A full pixel's colour, if it is then known: a layer over the memory's, or its own.
-fn full_color(
-    colors: &[u8],
-    marks: &[u8],
-    full: Full,
-    covered: bool,
-    pixel: usize,
-) -> Option<Colors>
-    requires pixel_in_bounds { pixel < length marks.now }
-    requires color_there { ColorThere colors.now marks.now pixel }
-    ensures { result ≡ full_color full (color_marked (slice_index marks.now pixel)) covered (colors_at colors.now pixel) }
+// Whether a full pixel's colour is then known.
+fn full_known(full: Full, mark: u8, covered: bool) -> bool
+    ensures { result ≡ (if full.layered then color_marked mark else full.sure || covered) }
 {
-    if !full.layered {
-        return (full.sure | covered).then_some(full.own);
+    if full.layered {
+        frame_pixel::color_marked(mark)
+    } else {
+        full.sure | covered
     }
-    let marked = frame_pixel::color_marked(marks[pixel]);
-    if marked {
-        let memory = frame::load::color(colors, marks, pixel);
-        return Some(frame_pixel::over_colors(full.layer, memory));
-    }
-    None
 }
 
-// A full pixel: its bytes where they are known, and 7 where its coverage becomes that.
+// Its bytes if so.
+fn full_colors(colors: &[u8], marks: &[u8], full: Full, pixel: usize) -> Colors
+    requires pixel_in_bounds { pixel < length marks.now }
+    requires color_there { ColorThere colors.now marks.now pixel }
+    ensures { result ≡ (if full.layered then over_colors full.layer (colors_if (color_marked (slice_index marks.now pixel)) (colors_at colors.now pixel)) else full.own) }
+{
+    if full.layered {
+        frame_pixel::over_colors(full.layer, frame::load::known_color(colors, marks, pixel))
+    } else {
+        full.own
+    }
+}
+
+// A full pixel: its bytes where they are known, and 7 where its coverage becomes that. It asks with flags and no Option, as `store` does and for its reason.
 fn fill_pixel(colors: &mut [u8], coverages: &mut [u8], marks: &mut [u8], full: Full, pixel: usize)
     requires pixel_in_bounds { pixel < length marks.old }
     requires long { Long (lent colors coverages marks) }
@@ -45,10 +47,20 @@ fn fill_pixel(colors: &mut [u8], coverages: &mut [u8], marks: &mut [u8], full: F
 {
     let mark = marks[pixel];
     let covered = frame_pixel::coverage_marked(mark);
-    let color = full_color(colors, marks, full, covered, pixel);
-    let coverage = full.fills.then_some(FULL_COVERAGE);
-    let after = frame_pixel::mark_of(color.is_some(), covered) | full.sets;
-    frame::store(colors, coverages, marks, pixel, color, coverage, after);
+    let known = full_known(full, mark, covered);
+    let new = full_colors(colors, marks, full, pixel);
+    let after = frame_pixel::mark_of(known, covered) | full.sets;
+    frame::store(
+        colors,
+        coverages,
+        marks,
+        pixel,
+        known,
+        new,
+        full.fills,
+        FULL_COVERAGE,
+        after,
+    );
 }
 
 // Pixels start up to end of row y, each with all its samples: how many they are.
