@@ -1,6 +1,6 @@
 -- To be believed. Demand 3, over any list of calls on a frame: what is not known shows in no answer, and the marks are as the verdicts of F1 and F2 said. Definitions
 -- only. Source: docs/RULES.md, What is not known does not show.
-use Rattle.std.specs.Prelude.{ℕ, ◌≡◌, Bool, cond, List, [], ◌∷◌, ◌++◌, eqb, get_or}
+use Rattle.std.specs.Prelude.{ℕ, ◌≡◌, Bool, List, [], ◌∷◌, ◌++◌, if◌then◌else◌, ◌==◌, slice_index}
 use Rattle.state.specs.declared.RenderMode.{RenderMode}
 use Rattle.combiner.specs.declared.Combiner.{Combiner}
 use Rattle.frame_pixel.specs.Marks.{color_marked}
@@ -48,11 +48,11 @@ module _ (w h : ℕ) where
 -- the last verdict at pixel p, or b where there is none
 abbrev pub last_at : ℕ → List Said → Bool → Bool
 last_at p [] b = b
-last_at p (s ∷ ss) b = last_at p ss (cond (eqb s.pixel p) s.verdict b)
+last_at p (s ∷ ss) b = last_at p ss (if s.pixel == p then s.verdict else b)
 
 -- pixel p's colour is marked known; without a mark byte it is not
 abbrev pub known_at : ℕ → Frame → Bool
-known_at p f = color_marked (get_or f.marks p 0)
+known_at p f = color_marked (slice_index f.marks p)
 
 -- ---- the claim on a whole list: the answers are the same, the frames are alike again, and on each a pixel's colour is marked known exactly as the last verdict
 -- on it said, or, where there is none, as at the start

@@ -1,6 +1,6 @@
 -- Inner vocabulary. Wrong rules, each the step with one thing changed, and a small input on which it breaks the law of one pixel, so that what each one changes is needed.
 -- Definitions only; that they break it is proofs/Wrong.
-use Rattle.std.specs.Prelude.{ℕ, ◌-◌, Bool, true, false, cond, not, ◌&&◌, ◌||◌, eqb, pos, Some, None}
+use Rattle.std.specs.Prelude.{ℕ, ◌-◌, Bool, true, false, not, ◌&&◌, ◌||◌, pos, Some, None, if◌then◌else◌, ◌==◌}
 use Rattle.std.specs.Float.{fin}
 use Rattle.num_float.specs.Color.{f0, f1}
 use Rattle.state.specs.declared.RenderMode.{RenderMode}
@@ -19,7 +19,7 @@ use Rattle.theorem_values.specs.Table.{mode, grey}
 -- the step with this in place of the verdict of F1 and F2
 abbrev pub step_if : Bool → RenderMode → Combiner → Source → Pixel → Pixel
 step_if known mode k s x =
-    assembled known (cond known (rule_f3 mode k s (coverage_at x) (memory_of (color_marked x.mark) x)) (rule_f4 x)) (coverage_after mode s x) x.coverage
+    assembled known (if known then rule_f3 mode k s (coverage_at x) (memory_of (color_marked x.mark) x) else rule_f4 x) (coverage_after mode s x) x.coverage
 
 -- F2 left out: an unknown coverage is passed as 0, and F1's yes is taken as it is
 unfoldable pub without_f2 : RenderMode → Combiner → Source → Pixel → Pixel
@@ -36,7 +36,7 @@ stale_kept mode k s x = assembled (known_after mode s x || color_marked x.mark) 
 -- F5 with count - 1 under antialias too
 abbrev pub count_stored : RenderMode → ℕ → Coverage → Coverage
 count_stored mode n (Some c) = rule_f5 mode n (Some c)
-count_stored mode n None = cond (eqb mode.cvg_dst 0 && not mode.force_blend) (Some (n - 1)) (rule_f5 mode n None)
+count_stored mode n None = if mode.cvg_dst == 0 && not mode.force_blend then Some (n - 1) else rule_f5 mode n None
 
 unfoldable pub count_under_antialias : RenderMode → Combiner → Source → Pixel → Pixel
 count_under_antialias mode k s x = assembled (known_after mode s x) (colors_after mode k s x) (count_stored mode s.count (coverage_at x)) x.coverage
@@ -46,8 +46,8 @@ abbrev pub seven_asked : RenderMode → ℕ → Coverage → Coverage
 seven_asked mode n (Some c) = rule_f5 mode n (Some c)
 seven_asked mode n None =
     let number = destination_of mode n 1 in
-    let asked : ℕ → Bool = λ c. eqb (destination_of mode n c) number in
-    cond (asked 1 && asked 2 && asked 3 && asked 4 && asked 5 && asked 6 && asked 7) (Some number) None
+    let asked : ℕ → Bool = λ c. destination_of mode n c == number in
+    if asked 1 && asked 2 && asked 3 && asked 4 && asked 5 && asked 6 && asked 7 then Some number else None
 
 unfoldable pub without_zero : RenderMode → Combiner → Source → Pixel → Pixel
 without_zero mode k s x = assembled (known_after mode s x) (colors_after mode k s x) (seven_asked mode s.count (coverage_at x)) x.coverage
