@@ -1,6 +1,7 @@
 #!/usr/bin/env bash
 # Holds docs/THEOREMS.md to the public set: what crate writeback re-exports, methods of its types included, and what crate exports gives C. Each call has no `requires`,
-# an `ensures`, a row in the page's part "Public calls", and, where its answer is an enum, that enum's meaning in its promise. Prints what is wrong and then fails.
+# an `ensures`, a row in the page's part "Public calls", and, where its answer is an enum, an Option or a Result, that answer's meaning in its promise. Prints what is wrong and
+# then fails.
 set -euo pipefail
 cd "$(dirname "$0")/.."
 
@@ -15,7 +16,7 @@ functions() {
             taking { text = text " " $0 }
             taking && /\{$/ && !/(requires|ensures)( [a-z_]+)? \{$/ {
                 taking = 0
-                name = text; sub(/.*[ ]fn /, "", name); sub(/.*pub fn /, "", name); sub(/\(.*/, "", name)
+                name = text; sub(/.*[ ]fn /, "", name); sub(/.*pub fn /, "", name); sub(/[(<].*/, "", name)
                 answer = "-"
                 if (match(text, /\) -> [A-Za-z0-9_:]+/)) { answer = substr(text, RSTART + 5, RLENGTH - 5); sub(/.*::/, "", answer) }
                 print crate, type name, answer, (text ~ / requires( [a-z_]+)? \{/ ? "requires" : "total"), (text ~ / ensures( [a-z_]+)? \{/ ? "ensures" : "silent"), (text ~ /(_means|_number) result / ? "means" : "bare")
@@ -41,9 +42,10 @@ items() {
     done
 }
 while read -r crate name; do
-    grep -qE "^pub (fn|struct|enum) $name\b" "crates/$crate/src/lib.rt" || loud "$crate::$name is no function, struct or enum of its crate's root"
+    grep -qE "^pub (fn|struct|enum|type) $name\b" "crates/$crate/src/lib.rt" || loud "$crate::$name is no function, struct, enum or type of its crate's root"
 done < <(items)
-enums=$(grep -ohE '^pub enum \w+' crates/*/src/*.rt | sed 's/pub enum //' | sort -u)
+# A type's other name may stand for one of these, too.
+enums=$( (grep -ohE '^pub (enum|type) \w+' crates/*/src/*.rt | sed -E 's/pub (enum|type) //'; printf 'Option\nResult\n') | sort -u)
 
 # The lines of what writeback re-exports: a function by its name, a type by its methods.
 reexported() {
@@ -68,7 +70,7 @@ while read -r crate name answer total ensures means; do
     [ "$ensures" = ensures ] || { echo "public: $crate $name promises nothing" >&2; wrong=1; }
     # C's answers are structs.
     if [ "$crate" != exports ] && [ "$means" != means ] && grep -qx "$answer" <<< "$enums"; then
-        echo "public: $crate $name answers the enum $answer, whose meaning is not in its promise" >&2
+        echo "public: $crate $name answers $answer, whose meaning is not in its promise" >&2
         wrong=1
     fi
 done < <(reexported; exported)
