@@ -3,7 +3,7 @@ ghost use Rattle.std.specs.Prelude.{◌≡◌, true, ◌&&◌, ◌*◌, ◌<◌,
 ghost use Rattle.frame_pixel.specs.Marks.{highest_mark, coverage_marked};
 ghost use Rattle.frame.specs.Frame.{frame_of};
 ghost use Rattle.frame.specs.Loads.{CoverageThere};
-ghost use Rattle.refused.specs.Numbers.{refusal_of};
+ghost use Rattle.refused.specs.Refused.{refusal_of};
 ghost use Rattle.frame.specs.Checks.{size_ok, sizes_ok, mark_ok, marks_ok, frame_refusal};
 ghost use Rattle.frame.specs.Finding.{every, at_most, Sees, Tells};
 

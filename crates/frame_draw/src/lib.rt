@@ -77,6 +77,7 @@ fn rasterize_by(
     requires room { Room width height (lent colors coverages marks) }
     ensures drew { DrewOn mode combiner (geometry_emits mode combiner cull scissor width height vertices.now present.now indices.now geometry) colors coverages marks result }
 {
+    // The host chooses at run time, and two calls are the plainest choice of two.
     match engine {
         Engine::Fast => rasterize::rasterize(
             colors, coverages, marks, mode, combiner, cull, scissor, width, height, geometry,

@@ -1,7 +1,7 @@
 // Why a draw is turned away: numbers 1 to 5 (docs/RULES.md, The numbers), the first that holds.
 ghost use Rattle.std.specs.Prelude.{◌≡◌};
 ghost use Rattle.frame.specs.Frame.{frame_of};
-ghost use Rattle.refused.specs.Numbers.{refusal_of};
+ghost use Rattle.refused.specs.Refused.{refusal_of};
 ghost use Rattle.frame_draw.specs.Checks.{scissor_ok, flags_ok, inputs_ok, entry_refusal};
 
 use raster_pixel::Scissor;

@@ -60,6 +60,7 @@ fn list_by(
     requires near { geometry ≡ Triangles → TrianglesNear vertices.now present.now indices.now }
     ensures { ListedIn window (geometry_masks mode.antialias cull scissor width height vertices.now present.now indices.now geometry) 0 result pixels masks }
 {
+    // The host chooses at run time, and two calls are the plainest choice of two.
     match engine {
         Engine::Fast => raster_emitted::list_pixels(
             pixels,
@@ -165,7 +166,7 @@ pub fn emitted_pixel(
     ))
 }
 
-// The pixels of a draw whose triangles are near, from `first` on (no draw emits as many as the limit), and zeros in the slots past the last: how many pixels it emits.
+// The pixels of a draw whose triangles are near, from `first` on, and zeros in the slots past the last: how many pixels it emits, which are fewer than the limit.
 fn list_from(
     engine: Engine,
     first: u64,

@@ -151,6 +151,7 @@ pub fn draw_row(
     let runs = flat & paint.even;
     let mut n: u64 = 0;
     let mut x = start;
+    // A step is a pixel or a run of them: no range has such steps.
     while x < end {
         let next = raster_pixel::row::part_end(runs, full, x, end);
         n += draw_part(

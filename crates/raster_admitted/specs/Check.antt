@@ -1,6 +1,6 @@
 -- To be believed. The checks of the Rust's `admitted` on three vertices. Definitions only. Source: writeback.rs, `admitted`, its checks in its order; docs/RULES.md, Admitted draws,
 -- numbers them.
-use Rattle.std.specs.Prelude.{ℕ, ◌+◌, ◌*◌, Bool, true, false, not, ◌&&◌, ◌||◌, List, Float, length, Option, Some, None, Result, Ok, Err, if◌then◌else◌, ◌==◌, nat_lt, nat_le, slice_index_or, slice_index}
+use Rattle.std.specs.Prelude.{ℕ, ◌+◌, ◌*◌, Bool, true, false, not, ◌&&◌, ◌||◌, List, Float, length, Option, Some, None, if◌then◌else◌, ◌==◌, nat_lt, nat_le, slice_index_or, slice_index}
 use Rattle.std.specs.Float.{nan}
 use Rattle.std.specs.Float.Ieee.{ne}
 use Rattle.state.specs.declared.Rgba.{Rgba}
@@ -11,8 +11,6 @@ use Rattle.combiner.specs.declared.Combiner.{Combiner}
 use Rattle.combiner.specs.Combine.{color_of}
 use Rattle.raster_vertex.specs.declared.Vertex.{Vertex}
 use Rattle.raster_vertex.specs.Range.{in_range, finite_color}
-use Rattle.raster_admitted.specs.declared.Check.{Check}
-use Rattle.raster_admitted.specs.declared.Check.TheVariants as check
 
 -- vertex i: six floats each, in the order x, y, red, green, blue, alpha
 abbrev pub vertex_at : List Float → ℕ → Vertex
@@ -70,13 +68,3 @@ check_of k a b c =
     else if uses_shade k.selectors && any (λ (v : Vertex). ne v.a a.a) a b c then 3
     else if any (λ (v : Vertex). not (finite_color v)) a b c then 4
     else alpha_check k a b c (color_of k (colour_of a))
-
--- the number of the check that fails; 0 for none
-abbrev pub check_number : Result Unit Check → ℕ
-check_number (Ok u) = 0
-check_number (Err check.Missing) = 1
-check_number (Err check.OutOfRange) = 2
-check_number (Err check.ShadesDiffer) = 3
-check_number (Err check.NotFinite) = 4
-check_number (Err check.NoColor) = 5
-check_number (Err check.AlphasDiffer) = 6

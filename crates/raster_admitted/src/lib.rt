@@ -5,7 +5,8 @@ ghost use Rattle.std.specs.Prelude.{◌≡◌, not};
 ghost use Rattle.std.specs.Float.Ieee.{ne};
 ghost use Rattle.raster_vertex.specs.Range.{in_range, finite_color};
 ghost use Rattle.combiner.specs.Combine.{color_of};
-ghost use Rattle.raster_admitted.specs.Check.{looked_up, colour_of, is_shade, uses_shade, any, alpha_differs, check_number, alpha_check, check_of};
+ghost use Rattle.raster_admitted.specs.Check.{looked_up, colour_of, is_shade, uses_shade, any, alpha_differs, alpha_check, check_of};
+ghost use Rattle.raster_admitted.specs.Checked.{check_number};
 
 use combiner::Combiner;
 use combiner_inputs::{AlphaIn, CycleSel};

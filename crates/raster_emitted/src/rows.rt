@@ -57,6 +57,7 @@ fn list_row(
     let full = raster_edges::full(edges, start, end);
     let mut m = n;
     let mut x = start;
+    // A step is a pixel or a run of them: no range has such steps.
     while x < end {
         if m == window.limit {
             return m;

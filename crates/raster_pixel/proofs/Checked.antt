@@ -23,7 +23,8 @@ use Rattle.std.specs.Result.{is_err}
 use Rattle.raster_pixel.specs.declared.Geometry.TheVariants.{Triangles}
 use Rattle.raster_admitted.specs.declared.Check.{Check}
 use Rattle.raster_admitted.specs.declared.Check.TheVariants as check
-use Rattle.raster_admitted.specs.Check.{any, check_number, check_of}
+use Rattle.raster_admitted.specs.Check.{any, check_of}
+use Rattle.raster_admitted.specs.Checked.{check_number}
 use Rattle.raster_pixel.specs.Admitted.{triangle_at, check_three, failing, all, admitted_of}
 use Rattle.raster_pixel.specs.Emitted.{corner_of}
 

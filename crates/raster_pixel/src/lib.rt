@@ -3,7 +3,7 @@
 #![tactic(auto)]
 
 ghost use Rattle.std.specs.Prelude.{◌≡◌, map, ◌+◌, ◌*◌, ◌<◌, length};
-ghost use Rattle.raster_admitted.specs.Check.{check_number};
+ghost use Rattle.raster_admitted.specs.Checked.{check_number};
 ghost use Rattle.raster_pixel.specs.Area.{Sized, area_of};
 ghost use Rattle.raster_pixel.specs.Admitted.{triangle_at, failing, admitted_of};
 ghost use Rattle.raster_pixel.specs.Emitted.{shown, corner_of};

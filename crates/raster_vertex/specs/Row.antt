@@ -7,7 +7,7 @@ use Rattle.state.specs.declared.Rgba.{Rgba}
 use Rattle.raster_vertex.specs.declared.Vertex.{Vertex}
 use Rattle.raster_vertex.specs.declared.row.Line.{Line}
 use Rattle.raster_vertex.specs.declared.row.ShadeRow.{ShadeRow}
-use Rattle.raster_vertex.specs.Shade.{area_of, term, sum3}
+use Rattle.raster_vertex.specs.Shade.{colours_of, area_of, term, sum3}
 use Rattle.raster_vertex.specs.Sorted.{vertex_at}
 
 -- of an edge at px, py, what px has no part in
@@ -17,9 +17,6 @@ line_of a b py = record { level = mul binary32 (sub binary32 b.x a.x) (sub binar
 -- level - rise * (px - x)
 unfoldable pub weight_at : Line → Float → Float
 weight_at l px = sub binary32 l.level (mul binary32 l.rise (sub binary32 px l.x))
-
-abbrev pub colours_of : Vertex → Rgba
-colours_of v = record { r = v.r; g = v.g; b = v.b; a = v.a }
 
 abbrev pub row_by : Vertex → Vertex → Vertex → Float → ShadeRow
 row_by a b c py =

@@ -8,6 +8,10 @@ use Rattle.state.specs.declared.Rgba.{Rgba}
 use Rattle.raster_vertex.specs.declared.Vertex.{Vertex}
 use Rattle.raster_vertex.specs.Sorted.{vertex_at}
 
+-- a vertex's colour
+abbrev pub colours_of : Vertex → Rgba
+colours_of v = record { r = v.r; g = v.g; b = v.b; a = v.a }
+
 -- (b.x - a.x) * (py - a.y) - (b.y - a.y) * (px - a.x)
 unfoldable pub edge_of : Vertex → Vertex → Float → Float → Float
 edge_of a b px py =

@@ -5,8 +5,7 @@
 ghost use Rattle.std.specs.Prelude.{◌≡◌, ◌<◌};
 ghost use Rattle.raster_vertex.specs.Range.{within, in_range, finite_color};
 ghost use Rattle.raster_vertex.specs.Sorted.{at_or_before, sorted};
-ghost use Rattle.raster_vertex.specs.Shade.{edge_of, area_of, culled_of, shade_of};
-ghost use Rattle.raster_vertex.specs.Row.{colours_of};
+ghost use Rattle.raster_vertex.specs.Shade.{colours_of, edge_of, area_of, culled_of, shade_of};
 ghost use Rattle.raster_vertex.specs.Any.{AnyOf};
 
 use state::Rgba;

@@ -83,7 +83,7 @@ fn draw_rows(
     n
 }
 
-// The rows inside the scissor. Where there are none none are called for: a call would copy the paint.
+// The rows inside the scissor. Where there is no row draw_rows is not called: the call would copy the paint.
 pub fn draw_shape(
     colors: &mut [u8],
     coverages: &mut [u8],

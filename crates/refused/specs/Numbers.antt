@@ -1,5 +1,5 @@
 -- To be believed. The numbers by which a call is turned away. Definitions only. Source: docs/RULES.md, The numbers.
-use Rattle.std.specs.Prelude.{ℕ, Result, Ok, Err}
+use Rattle.std.specs.Prelude.{ℕ}
 use Rattle.refused.specs.declared.Refusal.{Refusal}
 use Rattle.refused.specs.declared.Refusal.TheVariants as refusal
 
@@ -17,8 +17,3 @@ number_of refusal.Unknown = 10
 number_of refusal.Arguments = 11
 number_of refusal.Words = 19
 number_of refusal.Slots = 20
-
--- an answer's number: 0 where it is not turned away
-abbrev pub refusal_of : {A : Type 0} → Result A Refusal → ℕ
-refusal_of (Ok x) = 0
-refusal_of (Err e) = number_of e

@@ -9,7 +9,7 @@ ghost use Rattle.refused.specs.Numbers.{number_of};
 pub enum Refusal {
     Size = 1, // of the frame
     Lengths = 2, // of its slices
-    Marks = 3, // one is too high, or marks a coverage that is
+    Marks = 3, // one is too high, or marks a coverage that is too high
     Scissor = 4,
     Lists = 5, // of vertices, presence flags and indices
     Combiner = 6,
@@ -18,8 +18,8 @@ pub enum Refusal {
     Writer = 9,
     Unknown = 10, // the pixel's colour, or a coverage that its word needs
     Arguments = 11, // of a single-pixel call
-    Words = 19, // have not two bytes for each number
-    Slots = 20, // for pixels and masks have not one length
+    Words = 19, // of a run: not two bytes for each number
+    Slots = 20, // of a run: not one length for pixels and masks
 }
 
 impl Refusal {

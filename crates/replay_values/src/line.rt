@@ -108,7 +108,7 @@ impl<'a> Line<'a> {
         let mut string = ArrayVec::new();
         let count = self.count(N)?;
         if count > 0 {
-            let _ = self.skip(b" "); // which breaks the line, if anything
+            let _ = self.skip(b" "); // a space that is missing breaks the line, and the bytes are zeros
         }
         for _ in 0..count {
             let byte = self.digits(2).unwrap_or(0);
