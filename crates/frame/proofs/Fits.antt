@@ -15,7 +15,7 @@ use Rattle.blender.specs.Blend.{or_zero}
 use Rattle.num_float.proofs.Tests.{both_left, both_right}
 use Rattle.std.specs.Prelude.{None, Some}
 use Rattle.frame.specs.Frame.{Frame, put_pixel}
-use Rattle.frame.specs.Fits.{Fit}
+use Rattle.frame.specs.Fits.{Fit, Accepted}
 use Rattle.frame.specs.Checks.{size_ok, sizes_ok, lengths_ok, mark_ok, marks_ok, frame_refusal}
 
 -- ---- number 3 at one pixel: what it asks, taken apart and put together
@@ -66,13 +66,6 @@ marks_put (d ∷ cs) (l ∷ ms) (suc p) c m h t =
     λ i. both_left (mark_ok l d) (marks_ok cs ms) t i && marks_put cs ms p c m h (both_right (mark_ok l d) (marks_ok cs ms) t) i
 
 -- ---- a frame that is not refused
--- what number 0 says of a frame and its sizes
-pub record Accepted (f : Frame) (w h : ℕ) : Type 0 where
-  pub width : (1 ≤ w) × (w ≤ 1024)
-  pub height : (1 ≤ h) × (h ≤ 1024)
-  pub few : w * h ≤ 1048576
-  pub fit : Fit (w * h) f
-
 size_range : (n : ℕ) → size_ok n ≡ true → (1 ≤ n) × (n ≤ 1024)
 size_range n p = (leb-true 1 n (both_left (leb 1 n) (leb n 1024) p), leb-true n 1024 (both_right (leb 1 n) (leb n 1024) p))
 

@@ -29,6 +29,17 @@ pub record Fit (n : ℕ) (f : Frame) : Type 0 where
   pub low : (p : ℕ) → slice_index f.marks p ≤ highest_mark
   pub sound : (p : ℕ) → or_zero (coverage_of (slice_index f.marks p) (slice_index f.coverages p)) ≤ 7
 
+-- one of w by h pixels
+pub record Accepted (f : Frame) (w h : ℕ) : Type 0 where
+  pub width : (1 ≤ w) × (w ≤ 1024)
+  pub height : (1 ≤ h) × (h ≤ 1024)
+  pub few : w * h ≤ 1048576
+  pub fit : Fit (w * h) f
+
+-- a pixel's colour, if it is known
+abbrev pub color_at : Pixel → Option Colors
+color_at x = if color_marked x.mark then Some (rule_f4 x) else None
+
 -- an unmarked byte stands as 0
 abbrev pub known_pixel : Pixel → Pixel
 known_pixel x =
@@ -61,4 +72,4 @@ stored_at f p color coverage mark =
 
 -- and as far as its mark says that it is known
 abbrev pub put_known : Frame → ℕ → Pixel → Frame
-put_known f p x = stored_at f p (if color_marked x.mark then Some (rule_f4 x) else None) (coverage_at x) x.mark
+put_known f p x = stored_at f p (color_at x) (coverage_at x) x.mark

@@ -2,17 +2,90 @@
 // says that it is known, and written only where it then is.
 #![tactic(auto)]
 
-ghost use Rattle.std.specs.Prelude.{◌≡◌, ◌+◌, ◌*◌, ◌<◌, length};
+ghost use Rattle.std.specs.Prelude.{◌≡◌, ◌+◌, ◌*◌, ◌<◌, ◌≤◌, length, IfOk};
+ghost use Rattle.blender.specs.Blend.{or_zero};
+ghost use Rattle.frame_pixel.specs.Rules.{coverage_at};
+ghost use Rattle.refused.specs.Refused.{refusal_of};
 ghost use Rattle.frame.specs.Frame.{pixel_at, frame_of};
+ghost use Rattle.frame.specs.Checks.{frame_refusal};
 ghost use Rattle.frame.specs.Lent.{old, new, lent, before, after};
-ghost use Rattle.frame.specs.Fits.{Long, known_pixel, put_if, stored_at, put_known};
+ghost use Rattle.frame.specs.Fits.{Long, Accepted, color_at, known_pixel, put_if, stored_at, put_known};
 ghost use Rattle.std.specs.Bool.{then_some};
 ghost use Rattle.frame.specs.Loads.{Loadable};
 
+use blender::Coverage;
 use frame_pixel::{Colors, Pixel};
+use refused::Refusal;
 
 pub mod load; // the loads of colour and coverage bytes
 pub mod refusal; // numbers 1 to 3
+
+// A frame to be read, as numbers 1 to 3 let it through. Its slices are private, so that a pixel's bytes are had only as far as they are known.
+#[derive(Clone, Copy)]
+pub struct Frame<'a> {
+    pub width: u32,
+    pub height: u32,
+    colors: &'a [u8],
+    coverages: &'a [u8],
+    marks: &'a [u8],
+    pub ghost accepted: { Accepted (frame_of colors.now coverages.now marks.now) width height },
+}
+
+impl<'a> Frame<'a> {
+    ghost use Rattle.frame.specs.Shown.{seen, Shows};
+
+    // The frame, or the first of numbers 1 to 3 that holds.
+    #[tactic(auto, using(crate::proofs::Fits::accepted))]
+    pub fn new(
+        width: u32,
+        height: u32,
+        colors: &'a [u8],
+        coverages: &'a [u8],
+        marks: &'a [u8],
+    ) -> Result<Frame<'a>, Refusal>
+        ensures number { refusal_of result ≡ frame_refusal (frame_of colors.now coverages.now marks.now) width height }
+        ensures shows { IfOk result (λ frame. Shows frame width height (frame_of colors.now coverages.now marks.now)) }
+    {
+        refusal::frame_refusal(colors, coverages, marks, width, height)?;
+        Ok(Frame {
+            width,
+            height,
+            colors,
+            coverages,
+            marks,
+        })
+    }
+
+    // How many pixels it has.
+    pub fn pixels(&self) -> usize
+        ensures { result ≡ length (seen self.now).marks }
+    {
+        self.marks.len()
+    }
+
+    // A pixel's colour bytes, if they are known.
+    pub fn color(&self, pixel: usize) -> Option<Colors>
+        requires { pixel < length (seen self.now).marks }
+        ensures { result ≡ color_at (pixel_at (seen self.now) pixel) }
+    {
+        if frame_pixel::color_marked(self.marks[pixel]) {
+            return Some(load::color(self.colors, self.marks, pixel));
+        }
+        None
+    }
+
+    // A pixel's coverage, if it is known.
+    pub fn coverage(&self, pixel: usize) -> Coverage
+        requires { pixel < length (seen self.now).marks }
+        ensures value { result ≡ coverage_at (pixel_at (seen self.now) pixel) }
+        ensures low { or_zero result ≤ 7 }
+    {
+        if frame_pixel::coverage_marked(self.marks[pixel]) {
+            return Some(load::coverage(self.coverages, self.marks, pixel));
+        }
+        None
+    }
+}
 
 // The bytes of a pixel as far as they are known.
 pub fn known_pixel(colors: &[u8], coverages: &[u8], marks: &[u8], pixel: usize) -> Pixel
