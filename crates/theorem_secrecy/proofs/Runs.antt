@@ -2,21 +2,19 @@
 -- after it as its last verdict said. Part 1 shows them of a word read and of a run of them, part 2 of a draw, part 3 carries them along a list. A question for emitted pixels
 -- has them by the draw's plan alone (frame_emitted/proofs/Frames). A further kind of call is a
 -- further constructor with its three facts. Assumes nothing.
-use Prim.Native.Nat.{ℕ, zero, suc, ◌*◌, ◌<◌}
+use Prim.Native.Nat.{ℕ, ◌*◌, ◌<◌}
 use mathlib.Core.Path.{◌≡◌, refl, sym, ap, ap₂, subst, ◌∙◌}
-use mathlib.Core.Bool.{Bool, true, false, cond, not, ◌&&◌, ◌||◌}
+use mathlib.Core.Bool.{Bool, true, cond}
 use mathlib.Core.List.{List, [], ◌∷◌, ◌++◌}
 use native.Mathlib.Decide.{ℕ_discrete}
 use native.Mathlib.Omega.{arith}
-use borrow.Author.Tests.{eq-eqb, ne_eqb}
-use lib.Dec.{eqb, ltb}
+use lib.Dec.{eqb}
 use lib.ListN.{length, get_or, set}
 use lib.Seq.{get_or-set_same, get_or-set_other}
 use Rattle.state.specs.declared.RenderMode.{RenderMode}
 use Rattle.combiner.specs.declared.Combiner.{Combiner}
-use Rattle.words_pack.specs.Writer.{supported_of}
 use Rattle.frame_pixel.specs.declared.Pixel.{Pixel}
-use Rattle.frame_pixel.specs.Marks.{color_marked, coverage_marked}
+use Rattle.frame_pixel.specs.Marks.{color_marked}
 use Rattle.frame_pixel.specs.Rules.{pixel_step}
 use Rattle.frame_pixel.specs.Alike.{AlikePixel}
 use Rattle.frame_pixel.proofs.Alike.{same_coverage, color_after}
@@ -24,14 +22,13 @@ use Rattle.raster_pixel.specs.Emitted.{Emit}
 use Rattle.raster_pixel.proofs.Placed.{Placed}
 use Rattle.frame.specs.Frame.{Frame, pixel_at}
 use Rattle.frame_paint.specs.Steps.{source_of, step_frame, draw_list}
-use Rattle.frame.specs.Checks.{frame_refusal, or_else}
 use Rattle.frame_draw.specs.declared.Engine.{Engine}
 use Rattle.frame_draw.specs.Draw.{DrawArgs, Plan, plan_of, frame_by, draw_frame}
 use Rattle.frame_draw.proofs.Frames.{pixels_of, plan_same, draw_same, plan_marked}
 use Rattle.frame_emitted.proofs.Frames.{pixel_same, pixels_same}
 use Rattle.words_run.specs.Run.{read_at, RunAnswer, run_by, run_answer}
 use Rattle.words_run.proofs.Answers.{answers_same}
-use Rattle.words_read.specs.Read.{ReadArgs, writer_of, word_refusal, read_refusal, word_of, word_or, read_answer}
+use Rattle.words_read.specs.Read.{ReadArgs, word_refusal, read_refusal, word_of, read_answer}
 use Rattle.theorem_calls.specs.Calls.{Call, Answer, answer_to, frame_after, answers, frame_after_all}
 use Rattle.theorem_secrecy.specs.Runs.{Said, verdict_at, verdicts, said_by_plan, said_by, said, last_at, known_at, Secret}
 use Rattle.frame.specs.Alike.{Alike}
@@ -43,23 +40,11 @@ use Rattle.frame_paint.proofs.Fits.{step_marks}
 -- a word that is not refused has a known colour
 word_marked : (r : ReadArgs) (w n : ℕ) (x : Pixel) → word_refusal r w n x ≡ 0 → color_marked x.mark ≡ true
 unfolding word_refusal
-word_marked r w n x p = go (ltb r.pixel n) (supported_of (writer_of r w)) (color_marked x.mark) p
-  where
-    go :
-        (a b c : Bool) → ◌≡◌ {A = ℕ} (cond a (cond b (cond (c && (coverage_marked x.mark || not (eqb r.siz 2))) 0 10) 9) 8) 0
-        → c ≡ true
-    go false b c q = absurd (omega arith)
-    go true false c q = absurd (omega arith)
-    go true true false q = absurd (omega arith)
-    go true true true q = refl
+word_marked r w n x p = grind arith
 
 read_marked : (r : ReadArgs) (w h : ℕ) (f : Frame) → read_refusal r w h f ≡ 0 → color_marked (pixel_at f r.pixel).mark ≡ true
 unfolding read_refusal
-read_marked r w h f p = word_marked r w (w * h) (pixel_at f r.pixel) (go (frame_refusal f w h) p)
-  where
-    go : (k : ℕ) → or_else k (word_refusal r w (w * h) (pixel_at f r.pixel)) ≡ 0 → word_refusal r w (w * h) (pixel_at f r.pixel) ≡ 0
-    go zero q = q
-    go (suc k) q = absurd (omega arith)
+read_marked r w h f p = grind (arith, word_marked r w (w * h) (pixel_at f r.pixel))
 
 word_same : (r : ReadArgs) (w : ℕ) (x y : Pixel) → AlikePixel x y → color_marked x.mark ≡ true → word_of r w x ≡ word_of r w y
 unfolding word_of
@@ -73,12 +58,7 @@ module _ (w h : ℕ) {f g : Frame} (a : Alike f g) (r : ReadArgs) where
   read_same : read_answer r w h f ≡ read_answer r w h g
   unfolding read_answer
   read_same =
-      go (read_refusal r w h f) refl ∙ ap (λ (k : ℕ). word_or k (word_of r w (pixel_at g r.pixel))) read_refusal_same
-    where
-      go : (k : ℕ) → read_refusal r w h f ≡ k → word_or k (word_of r w (pixel_at f r.pixel)) ≡ word_or k (word_of r w (pixel_at g r.pixel))
-      go zero e =
-          ap (word_or 0) (word_same r w (pixel_at f r.pixel) (pixel_at g r.pixel) (a.pixels r.pixel) (read_marked r w h f e))
-      go (suc k) e = refl
+      grind (arith, read_refusal_same, λ (e : read_refusal r w h f ≡ 0). word_same r w (pixel_at f r.pixel) (pixel_at g r.pixel) (a.pixels r.pixel) (read_marked r w h f e))
 
 -- a run is its single reads, one after the other
 module _ (w h : ℕ) {f g : Frame} (a : Alike f g) (r : ReadArgs) (ws ns : List ℕ) where
@@ -115,11 +95,8 @@ module _ (mode : RenderMode) (k : Combiner) (p : ℕ) where
       mark = (pixel_step mode k (source_of e) (pixel_at f q)).mark
 
       go : Dec (q ≡ p) → color_marked (get_or (set f.marks q mark) p 0) ≡ cond (eqb q p) (verdict_at mode f e) (color_marked (get_or f.marks p 0))
-      go (yes r) =
-          rw (eq-eqb q p r)
-          (subst (λ (j : ℕ). color_marked (get_or (set f.marks q mark) j 0) ≡ verdict_at mode f e) r
-          (rw (get_or-set_same f.marks q mark 0 l) (color_after mode k (source_of e) (pixel_at f q))))
-      go (no n) = rw (ne_eqb q p n, get_or-set_other f.marks q p mark 0 (λ (r : p ≡ q). n (sym r)))
+      go (yes r) = grind (arith, get_or-set_same f.marks q mark 0 l, color_after mode k (source_of e) (pixel_at f q))
+      go (no n) = grind (arith, get_or-set_other f.marks q p mark 0)
 
   list_mark :
       (f : Frame) (es : List Emit) → Placed (length f.marks) es → known_at p (draw_list mode k f es) ≡ last_at p (verdicts mode k f es) (known_at p f)

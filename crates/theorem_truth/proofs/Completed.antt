@@ -5,6 +5,7 @@ use mathlib.Core.Bool.{Bool, true, false, cond}
 use mathlib.Core.List.{List, [], ◌∷◌}
 use native.Mathlib.Omega.{arith}
 use lib.ListN.{length, get_or}
+use Rattle.std.proofs.lemmas.List.{get_or_past}
 use Rattle.std.specs.Prelude.{Some, None}
 use Rattle.blender.specs.Blend.{or_zero}
 use Rattle.frame_pixel.specs.Marks.{highest_mark, color_marked, coverage_marked, mark_of}
@@ -29,36 +30,24 @@ module _ (known : ℕ → Bool) (really : ℕ → ℕ) where
   -- a byte that is known stays, also past the end
   filled_known : (i : ℕ) (l : List ℕ) (j k : ℕ) → k ≡ i + j → known k ≡ true → get_or (filled known really i l) j 0 ≡ get_or l j 0
   filled_known i [] j k e t = refl
-  filled_known i (x ∷ xs) zero k e t =
-      let p : i ≡ k = omega arith in
-      ap (λ (m : ℕ). cond (known m) x (really m)) p ∙ (λ n. cond (t n) x (really k))
+  filled_known i (x ∷ xs) zero k e t = grind arith
   filled_known i (x ∷ xs) (suc j) k e t = filled_known (suc i) xs j k (omega arith) t
 
   -- every other one is the one that it really was
   filled_really : (i : ℕ) (l : List ℕ) (j k : ℕ) → k ≡ i + j → known k ≡ false → j < length l → get_or (filled known really i l) j 0 ≡ really k
   filled_really i [] j k e t h = absurd (omega arith)
-  filled_really i (x ∷ xs) zero k e t h =
-      let p : i ≡ k = omega arith in
-      ap (λ (m : ℕ). cond (known m) x (really m)) p ∙ (λ n. cond (t n) x (really k))
+  filled_really i (x ∷ xs) zero k e t h = grind arith
   filled_really i (x ∷ xs) (suc j) k e t h = filled_really (suc i) xs j k (omega arith) t (omega arith)
 
   -- a bound of both is a bound of all
   filled_le : (b i : ℕ) (l : List ℕ) (j k : ℕ) → k ≡ i + j → (known k ≡ true → get_or l j 0 ≤ b) → really k ≤ b → get_or (filled known really i l) j 0 ≤ b
   filled_le b i [] j k e h r = omega arith
-  filled_le b i (x ∷ xs) zero k e h r =
-      let p : k ≡ i = omega arith in
-      subst (λ (m : ℕ). cond (known m) x (really m) ≤ b) p (go (known k) h)
-    where
-      go : (t : Bool) → (t ≡ true → x ≤ b) → cond t x (really k) ≤ b
-      go true h = h refl
-      go false h = r
+  filled_le b i (x ∷ xs) zero k e h r = grind arith
   filled_le b i (x ∷ xs) (suc j) k e h r = filled_le b (suc i) xs j k (omega arith) h r
 
 -- past the end of a slice nothing is known
 inside : (t : ℕ → Bool) → t 0 ≡ false → (l : List ℕ) (p : ℕ) → t (get_or l p 0) ≡ true → p < length l
-inside t z [] p h = never (sym z ∙ h)
-inside t z (x ∷ xs) zero h = omega arith
-inside t z (x ∷ xs) (suc p) h = let l = inside t z xs p h in omega arith
+inside t z l p h = grind (arith, get_or_past l p 0)
 
 module _ (f : Frame) (colors coverages : ℕ → ℕ) where
   abbrev whole : Frame
@@ -110,16 +99,11 @@ module _ (f : Frame) (colors coverages : ℕ → ℕ) where
           coverages = as_coverages ∙ (accepted f w h e).fit.coverages;
           marks = as_marks ∙ (accepted f w h e).fit.marks;
           low = λ p. filled_le (λ (p : ℕ). false) (λ (p : ℕ). mark_of true true) highest_mark 0 f.marks p p (omega arith) (λ t. never t) (omega arith);
-          sound = λ p. bound (coverage_marked (get_or whole.marks p 0)) _ (byte p);
+          sound = λ p. grind (arith, byte p);
         }
       where
-        bound : (b : Bool) (c : ℕ) → c ≤ 7 → or_zero (cond b (Some c) None) ≤ 7
-        bound true c l = l
-        bound false c l = omega arith
-
         of_sound : (b : Bool) (c : ℕ) → or_zero (cond b (Some c) None) ≤ 7 → b ≡ true → c ≤ 7
-        of_sound true c l t = l
-        of_sound false c l t = never t
+        of_sound b c l t = grind arith
 
         byte : (p : ℕ) → get_or whole.coverages p 0 ≤ 7
         byte p =

@@ -4,12 +4,12 @@
 -- case that matters most: a frame on which everything is known. A further kind of call is a further clause of `keeps` with its two facts, and one in part 4 and in
 -- proofs/Console. Assumes nothing.
 use Prim.Native.Nat.{ℕ, zero, suc, ◌*◌, ◌≤◌, ◌<◌}
-use mathlib.Core.Path.{◌≡◌, refl, sym, subst, ◌∙◌}
-use mathlib.Core.Bool.{Bool, true, false, cond, not, ◌&&◌, ◌||◌}
+use mathlib.Core.Path.{◌≡◌, refl, sym, ◌∙◌}
+use mathlib.Core.Bool.{Bool, true, cond}
 use mathlib.Core.List.{List, [], ◌∷◌}
 use native.Mathlib.Omega.{arith}
 use borrow.Author.Tests.{ltb-true}
-use lib.Dec.{eqb, ltb}
+use lib.Dec.{ltb}
 use lib.ListN.{length}
 use Rattle.state.specs.declared.RenderMode.{RenderMode}
 use Rattle.combiner.specs.declared.Combiner.{Combiner}
@@ -17,24 +17,20 @@ use Rattle.words_pack.specs.declared.Bytes2.{Bytes2}
 use Rattle.words_pack.specs.Writer.{supported_of}
 use Rattle.frame_pixel.specs.declared.Pixel.{Pixel}
 use Rattle.frame_pixel.specs.Rules.{pixel_step}
-use Rattle.frame_pixel.specs.Knows.{AllKnownPixel}
-use Rattle.num_float.proofs.Tests.{never}
 use Rattle.frame_pixel.proofs.Knows.{pixel_knows, pixel_all_known}
 use Rattle.raster_pixel.specs.Emitted.{Emit}
 use Rattle.frame.specs.Frame.{Frame, pixel_at}
-use Rattle.frame.specs.Checks.{sizes_ok, lengths_ok, marks_ok, or_else, frame_refusal}
+use Rattle.frame.specs.Checks.{or_else, frame_refusal}
 use Rattle.frame.specs.Knows.{KnowsFrame, KnowsAtLeast, AllKnown}
 use Rattle.frame.proofs.Fits.{accepted}
 use Rattle.frame.proofs.Knows.{put_knows, put_all_known}
 use Rattle.frame_paint.specs.Steps.{source_of, step_frame, draw_list}
-use Rattle.frame_draw.specs.Draw.{DrawArgs, Plan, plan_of, DrawAnswer, frame_by, draw_answer, draw_frame}
+use Rattle.frame_draw.specs.Draw.{DrawArgs, Plan, plan_of, frame_by, draw_frame}
 use Rattle.frame_draw.proofs.Frames.{plan_same, draw_same, draw_refusal}
 use Rattle.words_read.specs.Read.{ReadArgs, writer_of, readable, word_refusal, read_refusal, word_of, word_or, read_answer}
 use Rattle.words_run.specs.Run.{entry_of, run_answer}
-use Rattle.frame_emitted.specs.Emitted.{PixelAnswer, emitted_answer}
-use Rattle.frame_emitted.specs.Run.{PixelsAnswer, emitted_run}
 use Rattle.frame_emitted.proofs.Frames.{pixel_same, pixels_same}
-use Rattle.theorem_calls.specs.Calls.{Call, Answer, answer_to, frame_after, answers, frame_after_all}
+use Rattle.theorem_calls.specs.Calls.{Call, answer_to, frame_after, answers, frame_after_all}
 use Rattle.theorem_truth.specs.Truth.{TellsAnswer, Tells, Truth}
 use Rattle.theorem_truth.proofs.Words.{read_tells, run_tells, word_again, entry_again}
 
@@ -75,19 +71,19 @@ module _ (w h : ℕ) where
   keeps : (o : Call) → Keeps w h o
   keeps (Call.draw engine d) =
       record {
-        tells = λ g f a. subst (λ (v : DrawAnswer). TellsAnswer (Answer.drawn v) (Answer.drawn (draw_answer d w h f))) (sym (draw_same d w h g f a.numbers)) TellsAnswer.drawn;
+        tells = λ g f a. rw (draw_same d w h g f a.numbers) TellsAnswer.drawn;
         knows = λ g f a. draw_knows w h a d;
       }
   keeps (Call.read r) = record { tells = λ g f a. TellsAnswer.word (read_tells w h a r); knows = λ g f a. a }
   keeps (Call.reads r ws ns) = record { tells = λ g f a. TellsAnswer.run (run_tells w h a r ws ns); knows = λ g f a. a }
   keeps (Call.pixel engine d k) =
       record {
-        tells = λ g f a. subst (λ (v : PixelAnswer). TellsAnswer (Answer.masked v) (Answer.masked (emitted_answer d w h f k))) (sym (pixel_same d w h g f a.numbers k)) TellsAnswer.masked;
+        tells = λ g f a. rw (pixel_same d w h g f a.numbers k) TellsAnswer.masked;
         knows = λ g f a. a;
       }
   keeps (Call.pixels engine d first ps ms) =
       record {
-        tells = λ g f a. subst (λ (v : PixelsAnswer). TellsAnswer (Answer.listed v) (Answer.listed (emitted_run d w h f first ps ms))) (sym (pixels_same d w h g f a.numbers first ps ms)) TellsAnswer.listed;
+        tells = λ g f a. rw (pixels_same d w h g f a.numbers first ps ms) TellsAnswer.listed;
         knows = λ g f a. a;
       }
 
@@ -153,13 +149,7 @@ all_known_after w h (o ∷ os) f a = all_known_after w h os (frame_after w h o f
 
 refusal_le : (f : Frame) (w h : ℕ) → frame_refusal f w h ≤ 3
 unfolding frame_refusal
-refusal_le f w h = go (sizes_ok w h) (lengths_ok f (w * h)) (marks_ok f.coverages f.marks)
-  where
-    go : (a b c : Bool) → cond a (cond b (cond c 0 3) 2) 1 ≤ 3
-    go false b c = omega arith
-    go true false c = omega arith
-    go true true false = omega arith
-    go true true true = omega arith
+refusal_le f w h = grind arith
 
 -- And no word read is then turned away as not known.
 pub all_known_read : (w h : ℕ) (f : Frame) → AllKnown f → (r : ReadArgs) → (read_answer r w h f).number ≡ 10 → ⊥
@@ -173,17 +163,10 @@ all_known_read w h f a r = refused (frame_refusal f w h) refl
     word = cond (ltb r.pixel (w * h)) (cond (supported_of (writer_of r w)) (cond (readable x.mark r.siz) 0 10) 9) 8
 
     go : (i s p : Bool) (u : Bytes2) → (i ≡ true → p ≡ true) → (word_or (cond i (cond s (cond p 0 10) 9) 8) u).number ≡ 10 → ⊥
-    go false s p u m t = omega arith
-    go true false p u m t = omega arith
-    go true true true u m t = omega arith
-    go true true false u m t = never (m refl)
+    go i s p u m t = grind arith
 
     seen : length f.marks ≡ w * h → ltb r.pixel (w * h) ≡ true → readable x.mark r.siz ≡ true
-    seen e t =
-        let l : r.pixel < w * h = ltb-true r.pixel (w * h) t in
-        let i : r.pixel < length f.marks = omega arith in
-        let c : AllKnownPixel x = a.pixels r.pixel i in
-        λ j. c.mark1 j && (c.mark2 j || not (eqb r.siz 2))
+    seen e t = let l : r.pixel < length f.marks = omega (arith, ltb-true r.pixel (w * h) t) in let c = a.pixels r.pixel l in grind (arith, c.mark1, c.mark2)
 
     refused : (n : ℕ) → frame_refusal f w h ≡ n → (word_or (or_else n word) (word_of r w x)).number ≡ 10 → ⊥
     refused zero e t =

@@ -1,14 +1,12 @@
 -- A word read, and a run of them, on two frames of which g knows at least what f knows. A word of one byte has nothing of the coverage, so that it may be read where only
 -- g knows that. Assumes nothing.
 use Prim.Native.Nat.{ℕ, zero, suc, ◌+◌, ◌*◌, ◌≤◌}
-use mathlib.Core.Path.{◌≡◌, refl, sym, ap, subst, ◌∙◌}
-use mathlib.Core.Bool.{Bool, true, false, cond, not, ◌&&◌, ◌||◌}
+use mathlib.Core.Path.{◌≡◌, refl, sym, ap, subst}
+use mathlib.Core.Bool.{Bool, true, false, cond}
 use mathlib.Core.List.{List}
 use native.Mathlib.Omega.{arith}
-use borrow.Author.Tests.{eqb-true}
-use lib.Dec.{eqb, ltb, leb}
+use lib.Dec.{eqb, ltb}
 use lib.ListN.{length, get_or}
-use Rattle.blender.specs.Coverage.{Coverage}
 use Rattle.blender.specs.Blend.{or_zero}
 use Rattle.words_pack.specs.declared.Bytes2.{Bytes2}
 use Rattle.words_pack.specs.declared.FramebufferEncoding.{FramebufferEncoding}
@@ -18,7 +16,7 @@ use Rattle.words_pack.specs.Writer.{color_supported, supported_of, pixel_bytes_o
 use Rattle.frame_pixel.specs.declared.Pixel.{Pixel}
 use Rattle.frame_pixel.specs.Marks.{color_marked, coverage_marked, coverage_of}
 use Rattle.frame_pixel.specs.Knows.{KnowsPixel}
-use Rattle.num_float.proofs.Tests.{never, both_left, both_right}
+use Rattle.num_float.proofs.Tests.{never}
 use Rattle.frame.specs.Frame.{Frame, pixel_at}
 use Rattle.frame.specs.Knows.{KnowsAtLeast}
 use Rattle.frame.specs.Checks.{or_else, frame_refusal}
@@ -36,12 +34,7 @@ one_byte w fmt c i j pixel dither e = refl
 -- a supported size is 2 or 1
 size_one : (r : ReadArgs) (w : ℕ) → supported_of (writer_of r w) ≡ true → eqb r.siz 2 ≡ false → r.siz ≡ 1
 unfolding supported_of color_supported
-size_one r w t e = eqb-true r.siz 1 (go (eqb r.siz 2) (eqb r.siz 1) (eqb r.fmt 0) (leb 2 r.fmt && leb r.fmt 4) t e)
-  where
-    go : (two one p q : Bool) → ((two && p) || (one && q)) ≡ true → two ≡ false → one ≡ true
-    go true one p q t e = never (sym e)
-    go false true p q t e = refl
-    go false false p q t e = never t
+size_one r w t e = grind arith
 
 module _ {y x : Pixel} (h : KnowsPixel y x) where
   same_coverage : coverage_marked x.mark ≡ true → coverage_of y.mark y.coverage ≡ coverage_of x.mark x.coverage
@@ -51,39 +44,15 @@ module _ {y x : Pixel} (h : KnowsPixel y x) where
   same_color t = rw (h.red t, h.green t, h.blue t)
 
   readable_too : (siz : ℕ) → readable x.mark siz ≡ true → readable y.mark siz ≡ true
-  readable_too siz t =
-      go (color_marked x.mark) (color_marked y.mark) (coverage_marked x.mark) (coverage_marked y.mark) (not (eqb siz 2)) h.mark1 h.mark2 t
-    where
-      go : (a b c d s : Bool) → (a ≡ true → b ≡ true) → (c ≡ true → d ≡ true) → (a && (c || s)) ≡ true → (b && (d || s)) ≡ true
-      go false b c d s p q t = never t
-      go true false c d s p q t = never (p refl)
-      go true true true true s p q t = refl
-      go true true true false s p q t = never (q refl)
-      go true true false true s p q t = refl
-      go true true false false s p q t = t
+  readable_too siz t = grind (arith, h.mark1, h.mark2)
 
   module _ (r : ReadArgs) (w : ℕ) (supported : supported_of (writer_of r w) ≡ true) (t : readable x.mark r.siz ≡ true) where
     same_word : word_of r w y ≡ word_of r w x
     unfolding word_of
     same_word =
-        go (eqb r.siz 2) refl (coverage_marked x.mark) refl (both_right (color_marked x.mark) (coverage_marked x.mark || not (eqb r.siz 2)) t)
-        ∙ ap (λ (c : Rgba8). encode_of (writer_of r w) c (or_zero (coverage_of x.mark x.coverage)) r.pixel None r.dither r.encoding) (same_color (both_left _ _ t))
-      where
-        word : Coverage → Bytes2
-        word c = encode_of (writer_of r w) (bytes_of y) (or_zero c) r.pixel None r.dither r.encoding
-
-        go :
-            (two : Bool) → eqb r.siz 2 ≡ two → (m : Bool) → coverage_marked x.mark ≡ m → (m || not two) ≡ true
-            → word (coverage_of y.mark y.coverage) ≡ word (coverage_of x.mark x.coverage)
-        go two e true s q = ap word (same_coverage s)
-        go true e false s q = never q
-        go false e false s q =
-            subst
-            (λ (siz : ℕ).
-            encode_of (writer_by w r.fmt siz) (bytes_of y) (or_zero (coverage_of y.mark y.coverage)) r.pixel None r.dither r.encoding
-            ≡ encode_of (writer_by w r.fmt siz) (bytes_of y) (or_zero (coverage_of x.mark x.coverage)) r.pixel None r.dither r.encoding)
-            (sym (size_one r w supported e))
-            (one_byte w r.fmt (bytes_of y) _ _ r.pixel r.dither r.encoding)
+        grind (
+          arith, same_color, same_coverage, size_one r w supported, one_byte w r.fmt (bytes_of y) (or_zero (coverage_of y.mark y.coverage)) (or_zero (coverage_of x.mark x.coverage)) r.pixel r.dither r.encoding,
+        )
 
 module _ (w h : ℕ) {g f : Frame} (a : KnowsAtLeast w h g f) where
   pub read_tells : (r : ReadArgs) → TellsWord (read_answer r w h g) (read_answer r w h f)

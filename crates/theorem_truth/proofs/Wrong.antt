@@ -12,7 +12,7 @@ use Rattle.blender.specs.Mux.{mux_of}
 use Rattle.blender.specs.Coverage.{blends, clamp_of, destination_of}
 use Rattle.blender.specs.Known as known
 use Rattle.blender.specs.Blend.{factor_b, mixed_of, bytes_of, blend_of}
-use Rattle.num_float.proofs.Tests.{never, and_true}
+use Rattle.num_float.proofs.Tests.{never}
 use Rattle.frame_pixel.specs.declared.Pixel.{Pixel}
 use Rattle.frame_pixel.specs.Marks.{color_marked, coverage_marked, mark_of}
 use Rattle.frame_pixel.specs.Rules.{rule_f1, rule_f2, memory_of, rule_f3, fresh_coverage, rule_f5, coverage_at, known_after, colors_after, coverage_after, assembled, pixel_step}
@@ -39,7 +39,7 @@ pub without_same : (mode : RenderMode) (k : Combiner) (s : Source) (x : Pixel) �
 unfolding without_f2 pixel_step colors_after known_after
 without_same mode k s x e =
     let said = rule_f1 mode s (coverage_at x) (color_marked x.mark) in
-    let path : said ≡ said && not (rule_f2 mode s (coverage_at x)) = sym ((λ i. said && not (e i)) ∙ and_true said) in
+    let path : said ≡ said && not (rule_f2 mode s (coverage_at x)) = grind arith in
     λ i. step_if (path i) mode k s x
 
 -- ---- zeros stored for a colour that is not known: the memory was red
