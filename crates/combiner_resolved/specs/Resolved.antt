@@ -1,6 +1,6 @@
 -- Inner vocabulary. A combiner resolved once for a draw: each of its inputs as a constant or a part of the shade, and the colour that this gives. Definitions only.
 -- Source: Combiner::color of writeback.rs, of which this is a faster form; that the colours are the same is the law `new_mixes` (proofs/Mixes).
-use Rattle.std.specs.Prelude.{Bool, true, false, [], ◌∷◌, Float, Option, Some, None}
+use Rattle.std.specs.Prelude.{◌≡◌, Bool, true, false, [], ◌∷◌, Float, Option, Some, None}
 use Rattle.num_float.specs.Color.{f0, channel_of}
 use Rattle.state.specs.declared.Rgba.{Rgba}
 use Rattle.combiner_inputs.specs.declared.ColorIn.{ColorIn}
@@ -11,7 +11,7 @@ use Rattle.combiner_resolved.specs.declared.Kind.{Kind}
 use Rattle.combiner_resolved.specs.declared.Kind.TheVariants.{Constant, ConstantShade, ShadeConstant, Shade, AlphaConstant, Alpha}
 use Rattle.combiner_resolved.specs.declared.Operand.{Operand}
 use Rattle.combiner_resolved.specs.declared.Resolved.{Resolved}
-use Rattle.combiner.specs.Combine.{color_input, alpha_input, full_shade}
+use Rattle.combiner.specs.Combine.{color_input, alpha_input, color_of, full_shade}
 use Rattle.combiner.specs.Strict.{among}
 use Rattle.combiner_inputs.specs.Inputs.{color_number}
 use Rattle.combiner_resolved.specs.Shaded.{shade_alpha}
@@ -90,3 +90,7 @@ resolved_of k =
       c = operand_of k k.selectors.cc k.selectors.ac;
       d = operand_of k k.selectors.cd k.selectors.ad;
     }
+
+-- a combiner has a colour for every shade, as those that `new` makes have
+abbrev pub Mixed : Combiner → Type 0
+Mixed k = (s : Rgba) → color_of k s ≡ color_value (mixed_by (resolved_of k) s)

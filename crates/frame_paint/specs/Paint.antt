@@ -4,7 +4,8 @@ use Rattle.state.specs.declared.RenderMode.{RenderMode}
 use Rattle.state.specs.declared.Rgba.{Rgba}
 use Rattle.combiner.specs.declared.Combiner.{Combiner}
 use Rattle.combiner.specs.Combine.{color_of, full_shade}
-use Rattle.combiner_resolved.specs.Resolved.{color_value, mixed_by, resolved_of}
+use Rattle.combiner_resolved.specs.Resolved.{color_value, resolved_of}
+pub use Rattle.combiner_resolved.specs.Resolved.{Mixed}
 use Rattle.blender.specs.Mux.{mux_of}
 use Rattle.blender.specs.Layer.{opaque_of, steady_of}
 use Rattle.frame_pixel.specs.declared.Colors.{Colors}
@@ -23,10 +24,6 @@ pub record Prepared (paint : Paint) : Type 0 where
   pub even : paint.even ≡ (paint.full.layered || (steady_of paint.mode || paint.full.sure))
   -- every pixel of a triangle has the colour
   pub flat : paint.flat ≡ true → (paint.even ≡ true) × ((s : Rgba) → color_of paint.combiner s ≡ color_value paint.color)
-
--- a combiner has a colour for every shade, as those that `new` makes have
-abbrev pub Mixed : Combiner → Type 0
-Mixed k = (s : Rgba) → color_of k s ≡ color_value (mixed_by (resolved_of k) s)
 
 -- the paint of such a combiner
 pub record Ready (paint : Paint) : Type 0 where

@@ -9,3 +9,4 @@ pub mod Placed
 pub mod Kept
 pub mod Counts
 pub mod Near
+pub mod SetUp

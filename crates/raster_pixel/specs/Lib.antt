@@ -6,3 +6,4 @@ pub mod Row
 pub mod Admitted
 pub mod Emitted
 pub mod Near
+pub mod SetUp

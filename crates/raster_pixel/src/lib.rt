@@ -2,20 +2,28 @@
 // scissor, and which of them are shown.
 #![tactic(auto)]
 
-ghost use Rattle.std.specs.Prelude.{◌≡◌, map, ◌+◌, ◌*◌, ◌<◌, length};
-ghost use Rattle.raster_admitted.specs.Checked.{check_number};
+ghost use Rattle.std.specs.Prelude.{◌≡◌, map, ◌+◌, ◌*◌, ◌<◌, length, IfSome};
+ghost use Rattle.raster_edges.specs.Limits.{TameTri};
 ghost use Rattle.raster_pixel.specs.Area.{Sized, area_of};
-ghost use Rattle.raster_pixel.specs.Admitted.{triangle_at, failing, admitted_of};
+ghost use Rattle.raster_pixel.specs.Admitted.{triangle_at, admitted_of};
 ghost use Rattle.raster_pixel.specs.Emitted.{shown, corner_of};
+ghost use Rattle.raster_pixel.specs.Near.{CornersNear};
+ghost use Rattle.raster_pixel.specs.SetUp.{set_up_of};
 
 use combiner::Combiner;
-use raster_admitted::Check;
-use raster_edges::Corner;
+use raster_edges::{Corner, Tri};
 use raster_rectangle::Sides;
 use raster_vertex::{Triangle, Vertex};
 use state::Rgba;
 
+pub mod lists; // the lists of a draw
 pub mod row; // the parts of a row
+pub mod shapes; // what an accepted draw draws
+pub mod view; // a frame's size and a draw's scissor
+
+pub use crate::lists::Lists;
+pub use crate::shapes::Shapes;
+pub use crate::view::View;
 
 // In pixels.
 #[repr(C)]
@@ -52,66 +60,35 @@ pub struct Fragment {
     pub shade_alpha: f32,
 }
 
-// The pixels of a frame inside the scissor. Where it starts past the frame's end, the area ends where it starts.
-#[tactic(auto, unfolding(crate::specs::Area::area_of))]
+// The pixels of a frame inside the scissor.
 pub fn scissor_area(scissor: Scissor, width: u32, height: u32) -> Area
     requires { Sized scissor width height }
     ensures { result ≡ area_of scissor width height }
 {
-    let right = width.min(scissor.left + scissor.width);
-    let bottom = height.min(scissor.top + scissor.height);
-    Area {
-        left: scissor.left.min(right),
-        top: scissor.top.min(bottom),
-        right,
-        bottom,
+    View {
+        scissor,
+        width,
+        height,
     }
+    .area()
 }
 
 // Triangle i of an index list, if all its vertices are there.
-#[tactic(auto, unfolding(crate::specs::Admitted::triangle_at))]
 pub fn triangle_at(vertices: &[f32], present: &[u8], indices: &[u32], i: usize) -> Option<Triangle>
     requires { 3 * i + 2 < length indices.now }
     ensures { result ≡ triangle_at vertices.now present.now indices.now i }
 {
-    let at = 3 * i;
-    Some(Triangle {
-        a: raster_admitted::look_up(vertices, present, indices[at])?,
-        b: raster_admitted::look_up(vertices, present, indices[at + 1])?,
-        c: raster_admitted::look_up(vertices, present, indices[at + 2])?,
-    })
-}
-
-// The first check of triangle i that fails.
-#[tactic(auto, unfolding(crate::specs::Admitted::failing))]
-pub fn failing_check(
-    combiner: Combiner,
-    vertices: &[f32],
-    present: &[u8],
-    indices: &[u32],
-    i: usize,
-) -> Result<(), Check>
-    requires { 3 * i + 2 < length indices.now }
-    ensures { check_number result ≡ failing combiner vertices.now present.now indices.now i }
-{
-    let t = triangle_at(vertices, present, indices, i).ok_or(Check::Missing)?;
-    raster_admitted::checks(combiner, t)
-}
-
-// Whether no triangle has a failing check.
-fn triangles_admitted(combiner: Combiner, vertices: &[f32], present: &[u8], indices: &[u32]) -> bool
-    ensures { result ≡ admitted_of combiner Geometry.Triangles vertices.now present.now indices.now }
-{
-    for i in 0..indices.len() / 3 {
-        if failing_check(combiner, vertices, present, indices, i).is_err() {
-            return false;
-        }
-    }
-    true
+    lists::triangle_at(
+        &Lists {
+            vertices,
+            present,
+            indices,
+        },
+        i,
+    )
 }
 
 // Every rectangle is admitted, and triangles of which none has a failing check.
-#[tactic(auto, unfolding(crate::specs::Admitted::admitted_of))]
 pub fn admitted(
     combiner: Combiner,
     geometry: Geometry,
@@ -121,11 +98,12 @@ pub fn admitted(
 ) -> bool
     ensures { result ≡ admitted_of combiner geometry vertices.now present.now indices.now }
 {
-    match geometry {
-        Geometry::Nothing => false,
-        Geometry::Rectangle(_) => true,
-        Geometry::Triangles => triangles_admitted(combiner, vertices, present, indices),
-    }
+    let lists = Lists {
+        vertices,
+        present,
+        indices,
+    };
+    lists.admitted(combiner, geometry)
 }
 
 // A vertex in quarter units.
@@ -144,6 +122,24 @@ pub fn corners(v: [Vertex; 3]) -> [Corner; 3]
 {
     let [a, b, c] = v;
     [corner(a), corner(b), corner(c)]
+}
+
+// A triangle's vertices from the top down, and the edges between their corners. Nothing of a triangle that is culled or whose area in quarter units is 0.
+#[tactic(auto, unfolding(crate::specs::SetUp::set_up_of))]
+pub fn set_up(cull: bool, triangle: Triangle) -> Option<(Tri, [Vertex; 3])>
+    requires { CornersNear triangle.a triangle.b triangle.c }
+    ensures value { result ≡ set_up_of cull triangle }
+    ensures tame { IfSome result (λ p. TameTri p.0) }
+{
+    if triangle.culled(cull) {
+        return None;
+    }
+    let vertices = raster_vertex::sort([triangle.a, triangle.b, triangle.c]);
+    let corners = corners(vertices);
+    if raster_edges::quarter_area(corners) == 0 {
+        return None;
+    }
+    Some((raster_edges::setup(corners), vertices))
 }
 
 // Whether a pixel with these samples is emitted.

@@ -3,7 +3,7 @@ use mathlib.Core.Path.{sym, ◌∙◌}
 use mathlib.Core.Bool.{true, false}
 use Rattle.raster_pixel.specs.Admitted.{admitted_of}
 use Rattle.raster_pixel.proofs.Checked.{all_whole, all_stop, all_next, all_done, number_tells}
-use Rattle.raster_pixel.proofs.triangles_admitted.Goals as goal
+use Rattle.raster_pixel.proofs.lists.triangles_admitted.Goals as goal
 
 pub loop-i-init : goal.loop-i-init
 loop-i-init c = all_whole _ _
