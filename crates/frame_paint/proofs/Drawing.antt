@@ -1,103 +1,101 @@
--- One law for every loop of a draw: crate raster_pixel's `Going`, which says what is left, with a frame that fits at every turn. And the room that a frame has for the
--- pixels of a part of its rows. Assumes nothing.
-use mathlib.Core.Path.{◌≡◌, sym, subst, ◌∙◌}
-use mathlib.Core.List.{List}
+-- One law for every loop of a draw: crate raster_pixel's `Going`, which says what is left, over the frame that the draw is carried out on. And the pixels of its rows.
+-- Assumes nothing.
+use mathlib.Core.Path.{◌≡◌, refl, sym, subst, ◌∙◌}
+use mathlib.Core.List.{List, []}
 use Prim.Native.Nat.{ℕ, ◌+◌, ◌*◌, ◌≤◌, ◌<◌}
-use native.Mathlib.Nat.{suc-mul, mul-le-mul_right}
+use native.Mathlib.Nat.{suc-mul, mul_comm, mul-le-mul_right}
 use native.Mathlib.Numerals.{add-one}
 use native.Mathlib.Omega.{arith}
 use lib.ListN.{length}
 use Rattle.state.specs.declared.RenderMode.{RenderMode}
 use Rattle.combiner.specs.declared.Combiner.{Combiner}
+use Rattle.std.specs.Prelude.{Some}
+use Rattle.blender.specs.declared.Source.{Source}
+use Rattle.frame_pixel.specs.declared.Pixel.{Pixel}
+use Rattle.frame_pixel.specs.Rules.{pixel_step}
+use Rattle.raster_pixel.specs.declared.Fragment.{Fragment}
+use Rattle.raster_pixel.specs.declared.view.View.{View}
 use Rattle.raster_pixel.specs.Parts.{from}
-use Rattle.raster_pixel.specs.Emitted.{Emit}
+use Rattle.raster_pixel.specs.Emitted.{Emit, emits}
 use Rattle.raster_pixel.proofs.Loops.{Going, going_start, going_fits, going_more, going_by_fits, going_by, going_done}
-use Rattle.frame.specs.Frame.{Frame}
-use Rattle.frame.specs.Fits.{Fit}
+use Rattle.frame.specs.Frame.{pixel_at}
+use Rattle.frame.specs.Fits.{known_pixel, put_known}
+use Rattle.frame_paint.specs.declared.Target.{Target}
 use Rattle.frame_paint.specs.Steps.{step_frame}
-use Rattle.frame_paint.specs.Pixel.{Drew, Room}
+use Rattle.frame_paint.specs.Target.{seen, SameLoans}
+use Rattle.frame_paint.specs.Pixel.{DrewOn, fragment_source, emit_of}
+use Rattle.frame_paint.proofs.Steps.{stored_known}
 
--- ---- room
-module _ {w b : ℕ} {f : Frame} (r : Room w b f) where
-  -- after a part of a draw
-  pub room_now : {g : Frame} → Fit (length f.marks) g → Room w b g
-  room_now {g} h =
-      record {
-        wide = r.wide;
-        high = r.high;
-        there = omega (arith, r.there, h.marks);
-        fit = subst (λ (n : ℕ). Fit n g) (sym h.marks) h;
-      }
+-- ---- the frame
+pub same_refl : (t : Target) → SameLoans t t
+same_refl t = record { view = refl; colors = refl; coverages = refl; marks = refl }
 
-  -- for fewer rows
-  pub room_less : {d : ℕ} → d ≤ b → Room w d f
-  room_less h = record { wide = r.wide; high = omega (arith, r.high); there = omega (arith, r.there, mul-le-mul_right w h); fit = r.fit }
+pub same_then : {t u v : Target} → SameLoans t u → SameLoans u v → SameLoans t v
+same_then a b =
+    record { view = b.view ∙ a.view; colors = b.colors ∙ a.colors; coverages = b.coverages ∙ a.coverages; marks = b.marks ∙ a.marks }
 
-  -- up to one row
-  pub room_row : {y : ℕ} → y < b → Room w (y + 1) f
-  room_row h = room_less (omega arith)
+-- the pixels of row y up to column x are there
+pub row_in : (t : Target) {y x : ℕ} → y < t.view.height → x ≤ t.view.width → y * t.view.width + x ≤ length (seen t).marks
+row_in t {y} {x} below across =
+    let w = t.view.width in
+    omega (arith, t.fit.marks, suc-mul y w, mul-le-mul_right w below, mul_comm w t.view.height)
 
--- the pixel x of row y
-pub pixel_in : {w : ℕ} (y : ℕ) {x : ℕ} {f : Frame} → Room w (y + 1) f → x < w → y * w + x < length f.marks
-pixel_in {w} y r h = let e : (y + 1) * w ≡ y * w + w = rw add-one (suc-mul y w) in omega (arith, r.there)
+-- ---- the same pixels, or their count, said otherwise
+pub drew_as :
+    {mode : RenderMode} {k : Combiner} {ds es : List Emit} {t u : Target} {n : ℕ} → ds ≡ es → DrewOn mode k ds t u n → DrewOn mode k es t u n
+drew_as {mode} {k} {ds} {es} {t} {u} {n} e d = subst (λ (l : List Emit). DrewOn mode k l t u n) e d
 
--- ---- lengths
-module _ {n : ℕ} {f g : Frame} (a : Fit n f) (b : Fit n g) where
-  pub same_colors : length g.colors ≡ length f.colors
-  same_colors = b.colors ∙ sym a.colors
+pub drew_count :
+    {mode : RenderMode} {k : Combiner} {es : List Emit} {t u : Target} {n r : ℕ} → n ≡ r → DrewOn mode k es t u n → DrewOn mode k es t u r
+drew_count {mode} {k} {es} {t} {u} e d = subst (DrewOn mode k es t u) e d
 
-  pub same_coverages : length g.coverages ≡ length f.coverages
-  same_coverages = b.coverages ∙ sym a.coverages
+-- what emits nothing
+pub drew_nothing : {mode : RenderMode} {k : Combiner} {es : List Emit} (t : Target) → es ≡ [] → DrewOn mode k es t t 0
+drew_nothing t e = drew_as (sym e) (record { ran = record { state = refl; count = refl }; same = same_refl t })
 
-  pub same_marks : length g.marks ≡ length f.marks
-  same_marks = b.marks ∙ sym a.marks
+-- an emitted pixel, stored as far as it then is known
+pub pixel_drawn :
+    {mode : RenderMode} {k : Combiner} {fragment : Fragment} {p : ℕ} {t u : Target} {s : Source} {b x : Pixel}
+    → s ≡ fragment_source fragment → b ≡ known_pixel (pixel_at (seen t) p) → x ≡ pixel_step mode k s b → seen u ≡ put_known (seen t) p x → SameLoans t u
+    → DrewOn mode k (emits (Some fragment) p) t u 1
+pixel_drawn {mode} {k} {fragment} {p} {t} hs hb hx hu same =
+    record {
+      ran = record { state = stored_known mode k (seen t) (emit_of p fragment.mask fragment.color fragment.shade_alpha) hs hb hx hu; count = refl };
+      same = same;
+    }
 
--- ---- a loop over the parts from a up to b, with i the next: from f₀ to f, with n pixels counted
-pub record Drawing (mode : RenderMode) (k : Combiner) (c : ℕ → List Emit) (a b : ℕ) (f₀ : Frame) (i : ℕ) (f : Frame) (n : ℕ) : Type 0 where
-  pub going : Going (step_frame mode k) c a b f₀ i f n
-  pub fit : Fit (length f₀.marks) f
+-- ---- a loop over the parts from a up to b, with i the next: from t₀ to t, with n pixels counted. What a part emits turns on the view
+pub record DrawingOn (mode : RenderMode) (k : Combiner) (c : View → ℕ → List Emit) (a b : ℕ) (t₀ : Target) (i : ℕ) (t : Target) (n : ℕ) : Type 0 where
+  pub going : Going (step_frame mode k) (c t₀.view) a b (seen t₀) i (seen t) n
+  pub same : SameLoans t₀ t
 
-module _ (mode : RenderMode) (k : Combiner) (c : ℕ → List Emit) (a b : ℕ) (f₀ : Frame) where
-  pub drawing_start : Fit (length f₀.marks) f₀ → Drawing mode k c a b f₀ a f₀ 0
-  drawing_start h = record { going = going_start (step_frame mode k) c a b f₀; fit = h }
+module _ (mode : RenderMode) (k : Combiner) (c : View → ℕ → List Emit) (a b : ℕ) (t₀ : Target) where
+  pub drawing_start : DrawingOn mode k c a b t₀ a t₀ 0
+  drawing_start = record { going = going_start (step_frame mode k) (c t₀.view) a b (seen t₀); same = same_refl t₀ }
 
   -- part i
-  module _ {i n r m : ℕ} {f g : Frame} (h : i < b) (l : Drawing mode k c a b f₀ i f n) (d : Drew mode k m (c i) f g r) where
-    pub drawing_fits : n + r ≤ length (from c a b)
-    drawing_fits = going_fits (step_frame mode k) c a b f₀ h l.going d.ran
+  module _ {i n r : ℕ} {t u : Target} (h : i < b) (l : DrawingOn mode k c a b t₀ i t n) (d : DrewOn mode k (c t.view i) t u r) where
+    pub drawing_fits : n + r ≤ length (from (c t₀.view) a b)
+    drawing_fits = going_fits (step_frame mode k) (c t₀.view) a b (seen t₀) h l.going (drew_as (λ j. c (l.same.view j) i) d).ran
 
-    pub drawing_more : m ≡ length f.marks → Drawing mode k c a b f₀ (i + 1) g (n + r)
-    drawing_more e =
+    pub drawing_more : DrawingOn mode k c a b t₀ (i + 1) u (n + r)
+    drawing_more =
         record {
-          going = going_more (step_frame mode k) c a b f₀ h l.going d.ran;
-          fit = subst (λ (j : ℕ). Fit j g) (e ∙ l.fit.marks) d.fit;
+          going = going_more (step_frame mode k) (c t₀.view) a b (seen t₀) h l.going (drew_as (λ j. c (l.same.view j) i) d).ran;
+          same = same_then l.same d.same;
         }
 
   -- the parts from i up to e
-  module _ {i e n r m : ℕ} {f g : Frame} (h : i ≤ e) (t : e ≤ b) (l : Drawing mode k c a b f₀ i f n) (d : Drew mode k m (from c i e) f g r) where
-    pub drawing_by_fits : n + r ≤ length (from c a b)
-    drawing_by_fits = going_by_fits (step_frame mode k) c a b f₀ h t l.going d.ran
+  module _ {i e n r : ℕ} {t u : Target} (h : i ≤ e) (g : e ≤ b) (l : DrawingOn mode k c a b t₀ i t n) (d : DrewOn mode k (from (c t.view) i e) t u r) where
+    pub drawing_by_fits : n + r ≤ length (from (c t₀.view) a b)
+    drawing_by_fits = going_by_fits (step_frame mode k) (c t₀.view) a b (seen t₀) h g l.going (drew_as (λ j. from (c (l.same.view j)) i e) d).ran
 
-    pub drawing_by : m ≡ length f.marks → Drawing mode k c a b f₀ e g (n + r)
-    drawing_by q =
+    pub drawing_by : DrawingOn mode k c a b t₀ e u (n + r)
+    drawing_by =
         record {
-          going = going_by (step_frame mode k) c a b f₀ h t l.going d.ran;
-          fit = subst (λ (j : ℕ). Fit j g) (q ∙ l.fit.marks) d.fit;
+          going = going_by (step_frame mode k) (c t₀.view) a b (seen t₀) h g l.going (drew_as (λ j. from (c (l.same.view j)) i e) d).ran;
+          same = same_then l.same d.same;
         }
 
-  -- the same count, said otherwise
-  pub drawing_count : {i m n : ℕ} {f : Frame} → m ≡ n → Drawing mode k c a b f₀ i f m → Drawing mode k c a b f₀ i f n
-  drawing_count {i} {m} {n} {f} e d = subst (λ (j : ℕ). Drawing mode k c a b f₀ i f j) e d
-
-  pub drawing_done : {i n : ℕ} {f : Frame} → b ≤ i → Drawing mode k c a b f₀ i f n → Drew mode k (length f₀.marks) (from c a b) f₀ f n
-  drawing_done h l = record { ran = going_done (step_frame mode k) c a b f₀ h l.going; fit = l.fit }
-
--- the same pixels, said otherwise
-pub drew_as :
-    {mode : RenderMode} {k : Combiner} {m : ℕ} {ds es : List Emit} {f g : Frame} {n : ℕ}
-    → ds ≡ es → Drew mode k m ds f g n → Drew mode k m es f g n
-drew_as {mode} {k} {m} {ds} {es} {f} {g} {n} e d = subst (λ (l : List Emit). Drew mode k m l f g n) e d
-
-pub drew_count :
-    {mode : RenderMode} {k : Combiner} {m : ℕ} {es : List Emit} {f g : Frame} {n r : ℕ} → n ≡ r → Drew mode k m es f g n → Drew mode k m es f g r
-drew_count {mode} {k} {m} {es} {f} {g} e d = subst (λ (j : ℕ). Drew mode k m es f g j) e d
+  pub drawing_done : {i n : ℕ} {t : Target} → b ≤ i → DrawingOn mode k c a b t₀ i t n → DrewOn mode k (from (c t₀.view) a b) t₀ t n
+  drawing_done h l = record { ran = going_done (step_frame mode k) (c t₀.view) a b (seen t₀) h l.going; same = l.same }

@@ -1,18 +1,23 @@
 -- An emitted pixel keeps what numbers 1 to 3 leave of a frame: slices of their lengths, no mark above the highest, and no known coverage above 7. So does a list
 -- of them. Assumes nothing.
-use Prim.Native.Nat.{ℕ, ◌<◌}
-use mathlib.Core.Path.{◌≡◌}
+use Prim.Native.Nat.{ℕ, ◌<◌, ◌≤◌}
+use mathlib.Core.Path.{◌≡◌, refl, subst, sym}
+use mathlib.Core.Bool.{true}
 use mathlib.Core.List.{List}
 use lib.ListN.{length, length-set}
 use Rattle.num_bits.proofs.Masks.{ones_range}
 use Rattle.state.specs.declared.RenderMode.{RenderMode}
 use Rattle.combiner.specs.declared.Combiner.{Combiner}
-use Rattle.frame_pixel.specs.Rules.{pixel_step}
+use Rattle.blender.specs.declared.Source.{Source}
+use Rattle.blender.specs.Blend.{or_zero}
+use Rattle.frame_pixel.specs.declared.Pixel.{Pixel}
+use Rattle.frame_pixel.specs.Rules.{coverage_at, pixel_step}
 use Rattle.frame_pixel.proofs.Alike.{mark_after}
 use Rattle.frame_pixel.proofs.Knows.{coverage-after}
 use Rattle.raster_pixel.specs.Emitted.{Emit}
 use Rattle.raster_pixel.proofs.Placed.{Placed}
 use Rattle.frame.specs.Frame.{Frame, pixel_at}
+use Rattle.frame.specs.Checks.{mark_ok}
 use Rattle.frame.specs.Fits.{Fit}
 use Rattle.frame.proofs.Fits.{mark_good, put_fit}
 use Rattle.frame_paint.specs.Steps.{source_of, step_frame, draw_list}
@@ -22,14 +27,15 @@ module _ (mode : RenderMode) (k : Combiner) where
   unfolding step_frame
   step_marks f e = simp length-set
 
+  -- numbers 1 to 3 let the pixel through
+  pub step_good : (s : Source) (x : Pixel) {y : Pixel} → (1 ≤ s.count) × (s.count ≤ 8) → or_zero (coverage_at x) ≤ 7 → y ≡ pixel_step mode k s x → mark_ok y.mark y.coverage ≡ true
+  step_good s x c low e =
+      subst (λ (y : Pixel). mark_ok y.mark y.coverage ≡ true) (sym e) (mark_good _ _ (mark_after mode k s x) (coverage-after mode k s x c.0 c.1 low))
+
   pub fit_step : {n : ℕ} {f : Frame} (e : Emit) → Fit n f → 0 < e.mask → e.mask < 256 → Fit n (step_frame mode k f e)
   unfolding step_frame
   fit_step {n} {f} e h a b =
-      let x = pixel_at f e.pixel in
-      let y = pixel_step mode k (source_of e) x in
-      let c = ones_range e.mask a b in
-      put_fit h e.pixel y
-      (mark_good y.mark y.coverage (mark_after mode k (source_of e) x) (coverage-after mode k (source_of e) x c.0 c.1 (h.sound e.pixel)))
+      let c = ones_range e.mask a b in put_fit h e.pixel _ (step_good (source_of e) (pixel_at f e.pixel) c (h.sound e.pixel) refl)
 
   pub fit_list : {m n : ℕ} {f : Frame} {es : List Emit} → Fit n f → Placed m es → Fit n (draw_list mode k f es)
   fit_list h Placed.none = h

@@ -1,44 +1,50 @@
--- How many pixels a row and rows emit, and a full pixel of the paint's own colour. Assumes nothing.
-use mathlib.Core.Path.{◌≡◌, refl, sym, ◌∙◌}
+-- How many pixels a row emits, and a run of full pixels of the paint's own colour. Assumes nothing.
+use mathlib.Core.Path.{◌≡◌, refl, sym, subst, ◌∙◌}
 use mathlib.Core.Bool.{Bool, true, false, cond}
-use Prim.Native.Nat.{ℕ, ◌+◌, ◌-◌, ◌*◌, ◌≤◌}
+use Prim.Native.Nat.{ℕ, ◌+◌, ◌-◌, ◌*◌, ◌≤◌, ◌<◌}
 use native.Mathlib.Omega.{arith}
 use lib.ListN.{length}
 use Rattle.num_float.specs.Color.{f1}
-use Rattle.combiner_resolved.specs.Resolved.{color_value}
+use Rattle.std.specs.Prelude.{Option, Some, None}
 use Rattle.raster_edges.specs.declared.Edges.{Edges}
 use Rattle.raster_vertex.specs.declared.row.ShadeRow.{ShadeRow}
 use Rattle.raster_pixel.specs.declared.Fragment.{Fragment}
-use Rattle.std.specs.Prelude.{Option, Some, None}
-use Rattle.raster_pixel.specs.Emitted.{shown, covered, emits}
+use Rattle.raster_pixel.specs.Emitted.{shown, emits}
 use Rattle.raster_pixel.specs.Parts.{from}
-use Rattle.raster_pixel.proofs.Parts.{parts_bound}
+use Rattle.raster_pixel.specs.Row.{Fulls}
+use Rattle.raster_range.specs.declared.Range.{Range}
+use Rattle.raster_pixel.proofs.Parts.{parts_bound, from_same, from_shift}
+use Rattle.frame.specs.Frame.{Frame}
 use Rattle.frame_paint.specs.declared.prepare.Paint.{Paint}
-use Rattle.frame_paint.specs.declared.rows.Hue.{Hue}
-use Rattle.frame_paint.specs.Row.{hue_of, pixel_of, row_at, full_at}
+use Rattle.frame_paint.specs.Row.{painted, fragment_of, row_at, full_pixel, Runs}
 
 -- ---- how many pixels a row emits
 emits_most : (r : Option Fragment) (p : ℕ) → length (emits r p) ≤ 1
 emits_most None p = omega arith
 emits_most (Some f) p = omega arith
 
-pixel_most : (antialias : Bool) (mask : ℕ) (hue : Hue) (w y x : ℕ) → length (pixel_of antialias mask hue w y x) ≤ 1
-unfolding pixel_of
-pixel_most antialias mask hue w y x = emits_most (cond (shown antialias mask) (covered mask (color_value hue.color) hue.shade_alpha) None) (y * w + x)
+pub row_most : (paint : Paint) (shades : Option ShadeRow) (e : Edges) (w y a b : ℕ) → length (from (row_at paint shades e w y) a b) ≤ b - a
+row_most paint shades e w y a b = omega (arith, parts_bound (row_at paint shades e w y) 1 (λ x. emits_most _ _) (b - a) a)
 
-pub row_most : (paint : Paint) (flat : Bool) (row : ShadeRow) (e : Edges) (w y a b : ℕ) → length (from (row_at paint flat row e w y) a b) ≤ b - a
-row_most paint flat row e w y a b = omega (arith, parts_bound (row_at paint flat row e w y) 1 (λ x. pixel_most _ _ _ w y x) (b - a) a)
-
--- ---- a full pixel of the paint's own colour
+-- ---- a run of full pixels of the paint's own colour
 full_shown : (antialias : Bool) → shown antialias 255 ≡ true
 full_shown true = refl
 full_shown false = refl
 
-pub full_row :
-    (paint : Paint) (row : ShadeRow) (e : Edges) (w y x : ℕ) {mask : ℕ} {flat : Bool} → flat ≡ true → mask ≡ 255
-    → full_at paint.color w y x ≡ pixel_of paint.mode.antialias mask (hue_of paint.resolved paint.color flat row x) w y x
-unfolding pixel_of hue_of
-full_row paint row e w y x {mask} {flat} ef em =
+full_row :
+    (paint : Paint) {shades : Option ShadeRow} {mask : ℕ} (x p : ℕ) → shades ≡ None → mask ≡ 255
+    → full_pixel paint.color p ≡ emits (fragment_of paint shades mask x) p
+unfolding fragment_of
+full_row paint x p es em =
     sym
-    ((λ i. pixel_of paint.mode.antialias (em i) (hue_of paint.resolved paint.color (ef i) row x) w y x)
-    ∙ (λ i. emits (cond (full_shown paint.mode.antialias i) (covered 255 (color_value paint.color) f1) None) (y * w + x)))
+    ((λ i. emits (fragment_of paint (es i) (em i) x) p)
+    ∙ (λ i. emits (cond (full_shown paint.mode.antialias i) (Some (painted paint None 255 x)) None) p))
+
+pub run_row :
+    (paint : Paint) (shades : Option ShadeRow) (e : Edges) (w y : ℕ) {full : Range} {x next : ℕ} → Fulls e full → Runs paint shades full x next → x + 1 < next
+    → from (full_pixel paint.color) (y * w + x) (y * w + next) ≡ from (row_at paint shades e w y) x next
+run_row paint shades e w y {full} {x} {next} fulls runs h =
+    let r = runs h in
+    sym (from_shift (full_pixel paint.color) (y * w) x next)
+    ∙ from_same (λ i. full_pixel paint.color (y * w + i)) (row_at paint shades e w y) x next
+    (λ i p q. full_row paint i (y * w + i) r.0 (fulls i (omega (arith, r.2)) (omega (arith, r.3))))

@@ -1,41 +1,26 @@
--- One emitted pixel: the five bytes that the rules give, stored at its place, are a step of the frame, and the frame fits again. Assumes nothing.
+-- One emitted pixel: the five bytes that the rules give, stored as far as they are known, are a step of the frame. Assumes nothing.
 use mathlib.Core.Path.{◌≡◌, refl, sym, ap, subst, ◌∙◌}
-use Prim.Native.Nat.{ℕ, zero, suc, ◌+◌, ◌*◌, ◌<◌}
-use native.Mathlib.Omega.{arith}
-use mathlib.Core.Bool.{Bool, true, false, cond}
-use mathlib.Core.List.{List, [], ◌∷◌}
-use lib.ListN.{length, get_or, set}
-use lib.Ieee.{Float}
-use Rattle.state.specs.declared.RenderMode.{RenderMode}
-use Rattle.state.specs.declared.Rgba.{Rgba}
-use Rattle.combiner.specs.declared.Combiner.{Combiner}
-use Rattle.num_bits.specs.Ones.{ones_of}
-use Rattle.frame_pixel.specs.declared.Pixel.{Pixel}
+use Prim.Native.Nat.{ℕ, ◌+◌, ◌*◌}
+use mathlib.Core.Bool.{Bool, true, false, cond, not, ◌&&◌, ◌||◌}
+use lib.Dec.{leb}
+use mathlib.Core.List.{List}
+use lib.ListN.{get_or, set}
+use Rattle.std.proofs.lemmas.List.{set-get_or}
 use Rattle.std.specs.Prelude.{None, Some}
+use Rattle.state.specs.declared.RenderMode.{RenderMode}
+use Rattle.combiner.specs.declared.Combiner.{Combiner}
 use Rattle.blender.specs.declared.Source.{Source}
-use Rattle.frame_pixel.specs.Marks.{color_marked, coverage_marked, coverage_of}
-use Rattle.frame_pixel.specs.Rules.{rule_f4, pixel_step}
-use Rattle.blender.specs.Blend.{or_zero}
+use Rattle.frame_pixel.specs.declared.Pixel.{Pixel}
+use Rattle.frame_pixel.specs.Marks.{highest_mark, color_marked, coverage_marked}
+use Rattle.frame_pixel.specs.Rules.{rule_f4, coverage_at, pixel_step}
 use Rattle.frame_pixel.specs.Alike.{AlikePixel}
 use Rattle.frame_pixel.proofs.Alike.{pixel_alike, kept_colors, kept_coverage}
-use Rattle.combiner_resolved.specs.Resolved.{color_value}
-use Rattle.raster_pixel.specs.Emitted.{shown, covered, emits}
+use Rattle.raster_pixel.specs.Emitted.{Emit}
+use Rattle.frame.specs.Checks.{mark_ok}
 use Rattle.frame.specs.Frame.{Frame, frame_of, pixel_at, put_pixel}
 use Rattle.frame.specs.Fits.{Fit, known_pixel, with_colors, with_coverage, put_known}
-use Rattle.frame_paint.specs.Steps.{step_frame}
-use Rattle.frame_paint.specs.Pixel.{Drew, emit_of}
-use Rattle.frame_paint.specs.declared.rows.Hue.{Hue}
-use Rattle.frame_paint.specs.Row.{pixel_of}
-use Rattle.frame_paint.proofs.Fits.{fit_step}
-
-module _ (mode : RenderMode) (k : Combiner) (f : Frame) (pixel mask : ℕ) (color : Rgba) (shade : Float) where
-  pub stored :
-      {n : ℕ} {x : Pixel} → n ≡ ones_of mask
-      → x ≡ pixel_step mode k (record { color = color; shade_alpha = shade; count = n }) (pixel_at f pixel)
-      → put_pixel f pixel x ≡ step_frame mode k f (emit_of pixel mask color shade)
-  unfolding step_frame
-  stored hn hx =
-      ap (put_pixel f pixel) (hx ∙ (λ i. pixel_step mode k (record { color = color; shade_alpha = shade; count = hn i }) (pixel_at f pixel)))
+use Rattle.frame.proofs.Fits.{put_fit}
+use Rattle.frame_paint.specs.Steps.{source_of, step_frame}
 
 -- ---- a pixel read and stored as far as it is known
 
@@ -49,33 +34,20 @@ known_alike x =
       coverage = λ t. λ i. cond (t i) x.coverage 0;
     }
 
--- a known coverage keeps its bound
-pub known_sound : (x : Pixel) → or_zero (coverage_of x.mark (known_pixel x).coverage) ≡ or_zero (coverage_of x.mark x.coverage)
-known_sound x = go (coverage_marked x.mark)
-  where
-    go : (b : Bool) → or_zero (cond b (Some (cond b x.coverage 0)) None) ≡ or_zero (cond b (Some x.coverage) None)
-    go true = refl
-    go false = refl
-
 -- storing what is there
-pub set_back : (l : List ℕ) (i : ℕ) → i < length l → set l i (get_or l i 0) ≡ l
-set_back [] i h = absurd (omega arith)
-set_back (x ∷ l) zero h = refl
-set_back (x ∷ l) (suc i) h = ap (λ (m : List ℕ). x ∷ m) (set_back l i (omega arith))
-
 pub three_back :
-    (l : List ℕ) (i : ℕ) → i + 2 < length l
-    → set (set (set l i (get_or l i 0)) (i + 1) (get_or l (i + 1) 0)) (i + 2) (get_or l (i + 2) 0) ≡ l
-three_back l i h =
-    ap (λ (m : List ℕ). set (set m (i + 1) (get_or l (i + 1) 0)) (i + 2) (get_or l (i + 2) 0)) (set_back l i (omega arith))
-    ∙ ap (λ (m : List ℕ). set m (i + 2) (get_or l (i + 2) 0)) (set_back l (i + 1) (omega arith))
-    ∙ set_back l (i + 2) h
+    (l : List ℕ) (i : ℕ) → set (set (set l i (get_or l i 0)) (i + 1) (get_or l (i + 1) 0)) (i + 2) (get_or l (i + 2) 0) ≡ l
+three_back l i =
+    ap (λ (m : List ℕ). set (set m (i + 1) (get_or l (i + 1) 0)) (i + 2) (get_or l (i + 2) 0)) (set-get_or l i 0)
+    ∙ ap (λ (m : List ℕ). set m (i + 2) (get_or l (i + 2) 0)) (set-get_or l (i + 1) 0)
+    ∙ set-get_or l (i + 2) 0
 
-module _ (f : Frame) (p : ℕ) (x y : Pixel) (a : AlikePixel x y) (room : 3 * p + 2 < length f.colors) (place : p < length f.coverages) where
-  known_colors :
+-- an alike pixel whose unknown bytes are those that are there
+module _ (f : Frame) (p : ℕ) {x y : Pixel} (a : AlikePixel x y) where
+  alike_colors :
       (color_marked y.mark ≡ false → (y.red ≡ get_or f.colors (3 * p) 0) × ((y.green ≡ get_or f.colors (3 * p + 1) 0) × (y.blue ≡ get_or f.colors (3 * p + 2) 0)))
       → (put_known f p x).colors ≡ (put_pixel f p y).colors
-  known_colors kept = go (color_marked x.mark) refl
+  alike_colors kept = go (color_marked x.mark) refl
     where
       go :
           (b : Bool) → color_marked x.mark ≡ b
@@ -83,47 +55,69 @@ module _ (f : Frame) (p : ℕ) (x y : Pixel) (a : AlikePixel x y) (room : 3 * p 
       go true e = λ i. set (set (set f.colors (3 * p) (a.red e i)) (3 * p + 1) (a.green e i)) (3 * p + 2) (a.blue e i)
       go false e =
           let k = kept (ap color_marked (sym a.mark) ∙ e) in
-          sym ((λ i. set (set (set f.colors (3 * p) (k.0 i)) (3 * p + 1) (k.1.0 i)) (3 * p + 2) (k.1.1 i)) ∙ three_back f.colors (3 * p) room)
+          sym ((λ i. set (set (set f.colors (3 * p) (k.0 i)) (3 * p + 1) (k.1.0 i)) (3 * p + 2) (k.1.1 i)) ∙ three_back f.colors (3 * p))
 
-  known_coverages : (coverage_marked y.mark ≡ false → y.coverage ≡ get_or f.coverages p 0) → (put_known f p x).coverages ≡ (put_pixel f p y).coverages
-  known_coverages kept = go (coverage_marked x.mark) refl
+  alike_coverages : (coverage_marked y.mark ≡ false → y.coverage ≡ get_or f.coverages p 0) → (put_known f p x).coverages ≡ (put_pixel f p y).coverages
+  alike_coverages kept = go (coverage_marked x.mark) refl
     where
       go : (b : Bool) → coverage_marked x.mark ≡ b → with_coverage f.coverages p (cond b (Some x.coverage) None) ≡ (put_pixel f p y).coverages
       go true e = λ i. set f.coverages p (a.coverage e i)
-      go false e = sym (ap (set f.coverages p) (kept (ap coverage_marked (sym a.mark) ∙ e)) ∙ set_back f.coverages p place)
+      go false e = sym (ap (set f.coverages p) (kept (ap coverage_marked (sym a.mark) ∙ e)) ∙ set-get_or f.coverages p 0)
 
-module _ (mode : RenderMode) (k : Combiner) (f : Frame) (pixel mask : ℕ) (color : Rgba) (shade : Float) where
-  -- a step on what is known, stored as far as it then is known, is a step of the frame
-  pub stored_known :
-      {n : ℕ} {b x : Pixel} {g : Frame} → n ≡ ones_of mask → b ≡ known_pixel (pixel_at f pixel)
-      → x ≡ pixel_step mode k (record { color = color; shade_alpha = shade; count = n }) b
-      → g ≡ put_known f pixel x → 3 * pixel + 2 < length f.colors → pixel < length f.coverages
-      → g ≡ step_frame mode k f (emit_of pixel mask color shade)
-  stored_known {n} {b} {x} hn hb hx hg room place =
-      let s : Source = record { color = color; shade_alpha = shade; count = n } in
-      let c = pixel_at f pixel in
-      let y = pixel_step mode k s c in
-      let a : AlikePixel x y = subst (λ (z : Pixel). AlikePixel z y) (sym (hx ∙ ap (pixel_step mode k s) hb)) (pixel_alike mode k s (known_pixel c) c (known_alike c)) in
-      hg
-      ∙ (λ i. frame_of (known_colors f pixel x y a room place (kept_colors mode k s c) i) (known_coverages f pixel x y a room place (kept_coverage mode k s c) i) (set f.marks pixel (a.mark i)))
-      ∙ stored mode k f pixel mask color shade hn refl
+  put_alike :
+      (color_marked y.mark ≡ false → (y.red ≡ get_or f.colors (3 * p) 0) × ((y.green ≡ get_or f.colors (3 * p + 1) 0) × (y.blue ≡ get_or f.colors (3 * p + 2) 0)))
+      → (coverage_marked y.mark ≡ false → y.coverage ≡ get_or f.coverages p 0) → put_known f p x ≡ put_pixel f p y
+  put_alike c d = λ i. frame_of (alike_colors c i) (alike_coverages d i) (set f.marks p (a.mark i))
 
--- ---- a pixel with these samples: nothing where it is not shown, and else one step
-module _ (mode : RenderMode) (k : Combiner) (mask : ℕ) (hue : Hue) (w y x : ℕ) {n : ℕ} {f : Frame} (fit : Fit n f) where
-  pub pixel_none : shown mode.antialias mask ≡ false → Drew mode k n (pixel_of mode.antialias mask hue w y x) f f 0
-  unfolding pixel_of
-  pixel_none h =
-      subst (λ (b : Bool). Drew mode k n (emits (cond b (covered mask (color_value hue.color) hue.shade_alpha) None) (y * w + x)) f f 0) (sym h)
-      (record { ran = record { state = refl; count = refl }; fit = fit })
+-- a frame that fits does so with a pixel stored as far as it is known, if numbers 1 to 3 let that through
+module _ (f : Frame) (p : ℕ) (x : Pixel) where
+  kept_at : Pixel
+  kept_at =
+      record {
+        red = cond (color_marked x.mark) x.red (get_or f.colors (3 * p) 0);
+        green = cond (color_marked x.mark) x.green (get_or f.colors (3 * p + 1) 0);
+        blue = cond (color_marked x.mark) x.blue (get_or f.colors (3 * p + 2) 0);
+        coverage = cond (coverage_marked x.mark) x.coverage (get_or f.coverages p 0);
+        mark = x.mark;
+      }
 
-  pub pixel_one :
-      {g : Frame} → shown mode.antialias mask ≡ true → (0 < mask) × (mask < 256)
-      → g ≡ step_frame mode k f (emit_of (y * w + x) mask hue.color hue.shade_alpha)
-      → Drew mode k n (pixel_of mode.antialias mask hue w y x) f g 1
-  unfolding pixel_of
-  pixel_one {g} h c t =
-      subst (λ (b : Bool). Drew mode k n (emits (cond b (covered mask (color_value hue.color) hue.shade_alpha) None) (y * w + x)) f g 1) (sym h)
-      (record {
-        ran = record { state = t; count = refl };
-        fit = subst (Fit n) (sym t) (fit_step mode k (emit_of (y * w + x) mask hue.color hue.shade_alpha) fit c.0 c.1);
-      })
+  kept_alike : AlikePixel x kept_at
+  unfolding kept_at
+  kept_alike =
+      record {
+        mark = refl;
+        red = λ t. λ i. cond (sym t i) x.red (get_or f.colors (3 * p) 0);
+        green = λ t. λ i. cond (sym t i) x.green (get_or f.colors (3 * p + 1) 0);
+        blue = λ t. λ i. cond (sym t i) x.blue (get_or f.colors (3 * p + 2) 0);
+        coverage = λ t. λ i. cond (sym t i) x.coverage (get_or f.coverages p 0);
+      }
+
+  kept_ok : mark_ok kept_at.mark kept_at.coverage ≡ mark_ok x.mark x.coverage
+  unfolding kept_at mark_ok
+  kept_ok = ap (λ (b : Bool). leb x.mark highest_mark && b) (go (coverage_marked x.mark))
+    where
+      go : (b : Bool) → (not b || leb (cond b x.coverage (get_or f.coverages p 0)) 7) ≡ (not b || leb x.coverage 7)
+      go true = refl
+      go false = refl
+
+  pub put_known_fit : {n : ℕ} → Fit n f → mark_ok x.mark x.coverage ≡ true → Fit n (put_known f p x)
+  unfolding kept_at
+  put_known_fit {n} fit ok =
+      subst (Fit n)
+      (sym
+      (put_alike f p kept_alike
+      (λ h. (λ i. cond (h i) x.red (get_or f.colors (3 * p) 0), (λ i. cond (h i) x.green (get_or f.colors (3 * p + 1) 0), λ i. cond (h i) x.blue (get_or f.colors (3 * p + 2) 0))))
+      (λ h. λ i. cond (h i) x.coverage (get_or f.coverages p 0))))
+      (put_fit fit p kept_at (kept_ok ∙ ok))
+
+-- a step on what is known, stored as far as it then is known, is a step of the frame
+pub stored_known :
+    (mode : RenderMode) (k : Combiner) (f : Frame) (e : Emit) {s : Source} {b x : Pixel} {g : Frame}
+    → s ≡ source_of e → b ≡ known_pixel (pixel_at f e.pixel) → x ≡ pixel_step mode k s b → g ≡ put_known f e.pixel x → g ≡ step_frame mode k f e
+unfolding step_frame
+stored_known mode k f e {s} {b} {x} hs hb hx hg =
+    let c = pixel_at f e.pixel in
+    let y = pixel_step mode k (source_of e) c in
+    let a : AlikePixel x y =
+        subst (λ (z : Pixel). AlikePixel z y) (sym (hx ∙ (λ i. pixel_step mode k (hs i) (hb i)))) (pixel_alike mode k (source_of e) (known_pixel c) c (known_alike c)) in
+    hg ∙ put_alike f e.pixel a (kept_colors mode k (source_of e) c) (kept_coverage mode k (source_of e) c)

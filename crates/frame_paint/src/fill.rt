@@ -1,14 +1,13 @@
 // A run of pixels of one colour, each with all its samples: no sample is tested, and what does not turn on the pixel was worked out before.
-ghost use Rattle.std.specs.Prelude.{◌≡◌, true, false, ◌||◌, ◌+◌, ◌<◌, ◌≤◌, length, if◌then◌else◌, slice_index};
+ghost use Rattle.std.specs.Prelude.{◌≡◌, true, false, ◌||◌, ◌-◌, ◌<◌, ◌≤◌, length, if◌then◌else◌, slice_index};
 ghost use Rattle.raster_pixel.specs.Parts.{from};
 ghost use Rattle.frame_pixel.specs.Marks.{color_marked, mark_of};
 ghost use Rattle.frame_pixel.specs.Coloring.{over_colors};
-ghost use Rattle.frame.specs.Lent.{lent, before, after};
-ghost use Rattle.frame.specs.Fits.{Long, colors_at, colors_if};
+ghost use Rattle.frame.specs.Lent.{lent, old, before, after};
+ghost use Rattle.frame.specs.Fits.{Long, Fit, colors_at, colors_if};
 ghost use Rattle.frame.specs.Loads.{ColorThere};
-ghost use Rattle.frame_paint.specs.Pixel.{DrewOn, Room};
-ghost use Rattle.frame_paint.specs.Paint.{Prepared};
-ghost use Rattle.frame_paint.specs.Row.{filled_at, full_at};
+ghost use Rattle.frame_paint.specs.Pixel.{Drew};
+ghost use Rattle.frame_paint.specs.Row.{filled_at, full_pixel};
 
 use crate::prepare::Paint;
 use frame_pixel::Colors;
@@ -63,27 +62,22 @@ fn fill_pixel(colors: &mut [u8], coverages: &mut [u8], marks: &mut [u8], full: F
     );
 }
 
-// Pixels start up to end of row y, each with all its samples: how many they are.
-pub fn fill_row(
+// A run of pixels from the first up to the last, each with all its samples. The slices themselves and no target: through a &mut in the loop nothing is hoisted,
+// and a run takes three times as long.
+pub fn fill_run(
     colors: &mut [u8],
     coverages: &mut [u8],
     marks: &mut [u8],
-    paint: Paint,
-    width: u32,
-    y: u32,
-    start: u32,
-    end: u32,
-) -> u64
-    requires start_le_end { (start ≤ end) × (end ≤ width) × Prepared paint × (paint.even ≡ true) }
-    requires room { Room width (y + 1) (lent colors coverages marks) }
-    ensures { DrewOn paint.mode paint.combiner (from (full_at paint.color width y) start end) colors coverages marks result }
+    paint: &Paint,
+    first: usize,
+    last: usize,
+)
+    requires run { (first ≤ last) × (last ≤ length marks.old) × (paint.now.even ≡ true) }
+    requires fit { Fit (length marks.old) (lent colors coverages marks) }
+    ensures { Drew paint.now.mode paint.now.combiner (length (old marks)) (from (full_pixel paint.now.color) first last) (before colors coverages marks) (after colors coverages marks) (last - first) }
 {
-    let base = y * width;
     let full = paint.full;
-    let first = (base + start) as usize;
-    let last = (base + end) as usize;
     for pixel in first..last {
         fill_pixel(colors, coverages, marks, full, pixel);
     }
-    (end - start) as u64
 }

@@ -1,8 +1,13 @@
 // What does not turn on the pixel is worked out once a draw: the combiner resolved, the colour that it gives for the shade 1.0, the bytes that every opaque pixel has unless P
 // is the pixel's colour, what full pixels of that colour need, whether that is enough for them, and whether a triangle's pixels all have it.
-ghost use Rattle.std.specs.Prelude.{◌≡◌, unwrap_or};
+ghost use Rattle.std.specs.Prelude.{◌≡◌, true, ◌||◌, unwrap_or};
+ghost use Rattle.state.specs.declared.Rgba.{Rgba};
+ghost use Rattle.combiner.specs.Combine.{color_of, full_shade};
+ghost use Rattle.combiner_resolved.specs.Resolved.{color_value, resolved_of, Mixed};
+ghost use Rattle.blender.specs.Layer.{steady_of};
 ghost use Rattle.frame_pixel.specs.Coloring.{colors_of, ColoringOf};
-ghost use Rattle.frame_paint.specs.Paint.{Prepared, Mixed, Own};
+ghost use Rattle.frame_pixel.specs.Full.{FullOf};
+ghost use Rattle.frame_paint.specs.Paint.{Own};
 
 use blender::layer::{layer_of, layered};
 use combiner::Combiner;
@@ -21,6 +26,15 @@ pub struct Paint {
     pub full: Full,
     pub even: bool,
     pub flat: bool,
+    pub ghost mixed: { Mixed combiner },
+    pub ghost resolves: { resolved ≡ resolved_of combiner },
+    pub ghost colored: { color_of combiner full_shade ≡ color_value color },
+    pub ghost owned: { Own mode combiner own },
+    pub ghost filled: { FullOf mode combiner color full },
+    // what full pixels of the colour need is enough for them
+    pub ghost enough: { even ≡ (full.layered || (steady_of mode || full.sure)) },
+    // every pixel of a triangle has the colour
+    pub ghost flattened: { flat ≡ true → (even ≡ true) × ((s : Rgba) → color_of combiner s ≡ color_value color) },
 }
 
 // The bytes of an opaque pixel's colour: those that all pixels have, else of this one, which are worked out only then.
@@ -38,20 +52,15 @@ fn bytes_of(own: Option<Colors>, color: Rgba) -> Colors
 }
 
 // What is known ahead of a pixel of this colour.
-pub fn coloring_of(
-    mode: RenderMode,
-    combiner: Combiner,
-    own: Option<Colors>,
-    color: Rgba,
-) -> Coloring
-    requires { Own mode combiner own }
-    ensures { ColoringOf mode combiner color result }
+#[tactic(auto, unfolding(frame_pixel::specs::Coloring::ColoringOf))]
+pub fn coloring_of(paint: &Paint, color: Rgba) -> Coloring
+    ensures { ColoringOf paint.now.mode paint.now.combiner color result }
 {
-    if blender::opaque(mode, color.a) {
-        return Coloring::Opaque(bytes_of(own, color));
+    if blender::opaque(paint.mode, color.a) {
+        return Coloring::Opaque(bytes_of(paint.own, color));
     }
-    if layered(mode, color.a) {
-        return Coloring::Layered(layer_of(mode, combiner, color));
+    if layered(paint.mode, color.a) {
+        return Coloring::Layered(layer_of(paint.mode, paint.combiner, color));
     }
     Coloring::Blended
 }
@@ -60,7 +69,6 @@ pub fn prepare(mode: RenderMode, combiner: Combiner) -> Paint
     requires { Mixed combiner }
     ensures same_mode { result.mode ≡ mode }
     ensures same_combiner { result.combiner ≡ combiner }
-    ensures prepared { Prepared result }
 {
     let resolved = combiner_resolved::resolve(combiner);
     let color = combiner.color(combiner::full_shade()).unwrap();

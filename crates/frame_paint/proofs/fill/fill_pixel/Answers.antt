@@ -14,7 +14,7 @@ returns c =
     let a = c.args in
     let marked = color_marked (slice_index a.marks.now a.pixel) in
     let memory = colors_at a.colors.now a.pixel in
-    filled a.full (frame_of a.colors.now a.coverages.now a.marks.now) a.pixel c.requires.pixel_in_bounds c.requires.long
+    filled a.full (frame_of a.colors.now a.coverages.now a.marks.now) a.pixel
     c.coverage_marked-covered.ensures
     ((λ i. then_some (c.full_known-known.ensures i) (c.full_colors-new.ensures i))
     ∙ full-given a.full.layered marked (a.full.sure || c.coverage_marked-covered.result) (over_colors a.full.layer) memory a.full.own)

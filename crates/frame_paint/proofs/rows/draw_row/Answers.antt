@@ -1,6 +1,5 @@
 use native.Mathlib.Nat.{le_trans}
 use native.Mathlib.Omega.{arith}
-use mathlib.Core.Path.{refl}
 use Rattle.frame_paint.proofs.Drawing.{drawing_by_fits, drawing_by, drawing_done}
 use Rattle.frame_paint.proofs.Joins.{row_most}
 use Rattle.frame_paint.proofs.rows.draw_row.Goals as goal
@@ -12,15 +11,15 @@ overflow_add-n c =
     omega (
       arith,
       le_trans (drawing_by_fits _ _ _ _ _ _ (omega (arith, n.0)) n.1 c.loop-x.invariant c.draw_part-n.ensures)
-          (row_most a.paint a.flat a.row a.edges a.width a.y a.start a.end),
-      c.requires.start_le_end.1,
-      c.requires.room.wide,
+          (row_most a.paint.now a.shades a.edges a.target.now.view.width a.y a.start a.end),
+      c.requires.there.1,
+      a.target.now.view.sized.width_small,
     )
 
 pub loop-x-preserved : goal.loop-x-preserved
 loop-x-preserved c =
     let n = c.part_end-next.ensures.within in
-    drawing_by _ _ _ _ _ _ (omega (arith, n.0)) n.1 c.loop-x.invariant c.draw_part-n.ensures refl
+    drawing_by _ _ _ _ _ _ (omega (arith, n.0)) n.1 c.loop-x.invariant c.draw_part-n.ensures
 
 pub returns : goal.returns
 returns c = drawing_done _ _ _ _ _ _ c.loop-x-test.false c.loop-x.invariant
