@@ -1,8 +1,8 @@
 -- Triangles without a failing check: the loop over them, and what holds of each. Assumes nothing.
-use mathlib.Core.Path.{◌≡◌, refl, ap, subst, ◌∙◌}
+use mathlib.Core.Path.{◌≡◌, refl, ap, ◌∙◌}
 use mathlib.Core.Bool.{Bool, true, false, cond, not, ◌&&◌, ◌||◌, true≢false}
 use mathlib.Core.List.{List, [], ◌∷◌, map}
-use Prim.Native.Nat.{ℕ, zero, suc, ◌+◌, ◌-◌, ◌/◌, ◌≤◌, ◌<◌}
+use Prim.Native.Nat.{ℕ, zero, suc, ◌+◌, ◌/◌, ◌≤◌, ◌<◌}
 use native.Mathlib.Omega.{arith}
 use native.Mathlib.Decide.{dec_le}
 use borrow.Author.Tests.{eqb-true, not-false}
@@ -19,7 +19,8 @@ use Rattle.raster_vertex.proofs.Quarters.{quarter_x, quarter_y}
 use Rattle.raster_vertex.proofs.Ordered.{Each, InRange, sorted_length, sorted_each}
 use Rattle.raster_edges.specs.Limits.{Near, AllNear}
 use Rattle.std.specs.Prelude.{Option, Some, None, Result, Ok, Err}
-use Rattle.std.specs.Result.{is_err}
+use Rattle.std.specs.Result.{is_ok}
+use Rattle.std.specs.List.{list_all, range_with_len}
 use Rattle.raster_pixel.specs.declared.Geometry.TheVariants.{Triangles}
 use Rattle.raster_admitted.specs.declared.Check.{Check}
 use Rattle.raster_admitted.specs.declared.Check.TheVariants as check
@@ -32,49 +33,21 @@ use Rattle.raster_pixel.specs.Emitted.{corner_of}
 abbrev pub sound : Combiner → List Float → List ℕ → List ℕ → ℕ → Bool
 sound k vs ps is i = eqb (failing k vs ps is i) 0
 
--- an answer is an error where its check's number is not 0
-by_number : (r : Result Unit Check) → eqb (check_number r) 0 ≡ not (is_err r)
-by_number (Ok u) = refl
-by_number (Err check.Missing) = refl
-by_number (Err check.OutOfRange) = refl
-by_number (Err check.ShadesDiffer) = refl
-by_number (Err check.NotFinite) = refl
-by_number (Err check.NoColor) = refl
-by_number (Err check.AlphasDiffer) = refl
+-- an answer is there where its check's number is 0
+pub is_ok-number : (r : Result Unit Check) → is_ok r ≡ eqb (check_number r) 0
+is_ok-number (Ok u) = refl
+is_ok-number (Err check.Missing) = refl
+is_ok-number (Err check.OutOfRange) = refl
+is_ok-number (Err check.ShadesDiffer) = refl
+is_ok-number (Err check.NotFinite) = refl
+is_ok-number (Err check.NoColor) = refl
+is_ok-number (Err check.AlphasDiffer) = refl
 
-pub number_tells : (r : Result Unit Check) (n : ℕ) (b : Bool) → check_number r ≡ n → is_err r ≡ b → eqb n 0 ≡ not b
-number_tells r n b e h = subst (λ (m : ℕ). eqb m 0 ≡ not b) e (by_number r ∙ ap not h)
-
--- ---- p of the numbers from i up to n
-pub all_whole : (p : ℕ → Bool) (n : ℕ) → all p (n - 0) 0 ≡ all p n 0
-all_whole p n =
-    let e : n - 0 ≡ n = omega arith in
-    ap (λ (k : ℕ). all p k 0) e
-
-module _ (p : ℕ → Bool) (i n : ℕ) where
-  all_more : i < n → all p (n - i) i ≡ p i && all p (n - (i + 1)) (i + 1)
-  all_more h = subst (λ (k : ℕ). all p k i ≡ p i && all p (n - (i + 1)) (i + 1)) e (more (n - (i + 1)))
-    where
-      e : suc (n - (i + 1)) ≡ n - i
-      e = omega arith
-
-      more : (k : ℕ) → all p (suc k) i ≡ p i && all p k (i + 1)
-      more k = unfold all in refl
-
-  pub all_stop : i < n → p i ≡ false → all p (n - i) i ≡ false
-  all_stop h e = all_more h ∙ ap (λ (b : Bool). b && all p (n - (i + 1)) (i + 1)) e
-
-  pub all_next : i < n → p i ≡ true → all p (n - i) i ≡ all p (n - (i + 1)) (i + 1)
-  all_next h e = all_more h ∙ ap (λ (b : Bool). b && all p (n - (i + 1)) (i + 1)) e
-
-  pub all_done : n ≤ i → all p (n - i) i ≡ true
-  all_done h = subst (λ (k : ℕ). all p k i ≡ true) e none
-    where
-      e : 0 ≡ n - i
-      e = omega arith
-
-      none : all p 0 i ≡ true
-      none = unfold all in refl
+-- ---- p of n numbers from i on
+pub list_all-range : (p : ℕ → Bool) (n i : ℕ) → list_all p (range_with_len i n) ≡ all p n i
+unfolding all
+list_all-range p zero i = refl
+list_all-range p (suc n) i = ap (λ (b : Bool). p i && b) (list_all-range p n (i + 1))
 
 -- p of all is p of each
 pub all_at : (p : ℕ → Bool) (n i : ℕ) → all p n i ≡ true → (j : ℕ) → i ≤ j → j < i + n → p j ≡ true

@@ -8,16 +8,9 @@ use native.Mathlib.Decide.{dec_le}
 use Rattle.raster_pixel.specs.declared.Scissor.{Scissor}
 use Rattle.raster_pixel.specs.declared.Area.{Area}
 use Rattle.raster_pixel.specs.Parts.{from}
-use Rattle.raster_pixel.specs.Area.{right_of, bottom_of, area_of}
+use Rattle.raster_pixel.specs.Area.{right_of, bottom_of, area_of, Bounded}
 use Rattle.raster_pixel.specs.Emitted.{inside}
 use Rattle.raster_pixel.proofs.Parts.{from_none}
-
--- a part of a frame that is w wide and h high
-pub record Bounded (a : Area) (w h : ℕ) : Type 0 where
-  pub across : a.left ≤ a.right
-  pub right_in : a.right ≤ w
-  pub down : a.top ≤ a.bottom
-  pub bottom_in : a.bottom ≤ h
 
 area_bounded : (s : Scissor) (w h : ℕ) → Bounded (area_of s w h) w h
 unfolding area_of

@@ -27,3 +27,10 @@ area_of s w h =
       right = right_of s w;
       bottom = bottom_of s h;
     }
+
+-- a part of a frame that is w wide and h high
+pub record Bounded (a : Area) (w h : ℕ) : Type 0 where
+  pub across : a.left ≤ a.right
+  pub right_in : a.right ≤ w
+  pub down : a.top ≤ a.bottom
+  pub bottom_in : a.bottom ≤ h

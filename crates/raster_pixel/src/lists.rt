@@ -45,12 +45,7 @@ pub fn failing_check(lists: &Lists, combiner: Combiner, i: usize) -> Result<(), 
 fn triangles_admitted(lists: &Lists, combiner: Combiner) -> bool
     ensures { result ≡ admitted_of combiner Geometry.Triangles lists.now.vertices.now lists.now.present.now lists.now.indices.now }
 {
-    for i in 0..lists.indices.len() / 3 {
-        if failing_check(lists, combiner, i).is_err() {
-            return false;
-        }
-    }
-    true
+    (0..lists.indices.len() / 3).all(|i| failing_check(lists, combiner, i).is_ok())
 }
 
 impl Lists<'_> {

@@ -14,13 +14,11 @@ pub fn samples(edges: Edges, full: Range, x: u32) -> u8
     requires fulls { Fulls edges full }
     ensures { result ≡ mask_of edges x }
 {
-    if x < full.start {
-        return raster_edges::mask(edges, x);
+    if full.start <= x && x < full.end {
+        ALL
+    } else {
+        raster_edges::mask(edges, x)
     }
-    if x < full.end {
-        return ALL;
-    }
-    raster_edges::mask(edges, x)
 }
 
 // Where the part of a row that starts at x ends: after pixel x, or after the run of full pixels where it starts.

@@ -1,6 +1,6 @@
 // Where a draw may emit pixels.
 ghost use Rattle.std.specs.Prelude.{◌≡◌};
-ghost use Rattle.raster_pixel.specs.Area.{Sized, area_of};
+ghost use Rattle.raster_pixel.specs.Area.{Sized, area_of, Bounded};
 
 use crate::{Area, Scissor};
 
@@ -17,7 +17,8 @@ impl View {
     // The pixels of the frame inside the scissor. Where it starts past the frame's end, the area ends where it starts.
     #[tactic(auto, unfolding(crate::specs::Area::area_of))]
     pub fn area(self) -> Area
-        ensures { result ≡ area_of self.scissor self.width self.height }
+        ensures value { result ≡ area_of self.scissor self.width self.height }
+        ensures bounded { Bounded result self.width self.height }
     {
         let right = self.width.min(self.scissor.left + self.scissor.width);
         let bottom = self.height.min(self.scissor.top + self.scissor.height);
