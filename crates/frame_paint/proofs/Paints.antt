@@ -1,7 +1,6 @@
 -- The parts of a paint from the answers that they are made of, and that the shade's alpha has no part in a pixel of an even paint's own colour. Assumes nothing.
-use mathlib.Core.Path.{◌≡◌, refl, sym, ap, subst, ◌∙◌}
+use mathlib.Core.Path.{◌≡◌, refl, sym, ap, ◌∙◌}
 use mathlib.Core.Bool.{Bool, true, false, cond, not, ◌&&◌, ◌||◌}
-use mathlib.Core.List.{List}
 use Prim.Native.Nat.{ℕ}
 use lib.Dec.{eqb}
 use lib.Ieee.{Float}
@@ -11,8 +10,7 @@ use Rattle.state.specs.declared.RenderMode.{RenderMode}
 use Rattle.state.specs.declared.Rgba.{Rgba}
 use Rattle.combiner.specs.declared.Combiner.{Combiner}
 use Rattle.combiner.specs.Combine.{color_of, full_shade}
-use Rattle.combiner_resolved.specs.declared.Resolved.{Resolved}
-use Rattle.combiner_resolved.specs.Resolved.{color_value, resolved_of}
+use Rattle.combiner_resolved.specs.Resolved.{color_value}
 use Rattle.combiner_resolved.specs.Shaded.{shade_used}
 use Rattle.combiner_resolved.proofs.Flat.{flat_color}
 use Rattle.blender.specs.declared.Mux.{Mux}
@@ -31,7 +29,6 @@ use Rattle.std.proofs.lemmas.Bool.{not-true}
 use Rattle.num_float.proofs.Tests.{never, both_left, both_right}
 use Rattle.frame_pixel.proofs.Colorings.{opaque_step, unshaded_step}
 use Rattle.num_bits.specs.Ones.{ones_of}
-use Rattle.raster_pixel.specs.Emitted.{Emit}
 use Rattle.frame.specs.Frame.{Frame, pixel_at, put_pixel}
 use Rattle.frame_paint.specs.declared.prepare.Paint.{Paint}
 use Rattle.frame_paint.specs.Steps.{step_frame}

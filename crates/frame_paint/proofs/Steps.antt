@@ -12,7 +12,7 @@ use Rattle.combiner.specs.declared.Combiner.{Combiner}
 use Rattle.blender.specs.declared.Source.{Source}
 use Rattle.frame_pixel.specs.declared.Pixel.{Pixel}
 use Rattle.frame_pixel.specs.Marks.{highest_mark, color_marked, coverage_marked}
-use Rattle.frame_pixel.specs.Rules.{rule_f4, coverage_at, pixel_step}
+use Rattle.frame_pixel.specs.Rules.{rule_f4, pixel_step}
 use Rattle.frame_pixel.specs.Alike.{AlikePixel}
 use Rattle.frame_pixel.proofs.Alike.{pixel_alike, kept_colors, kept_coverage}
 use Rattle.raster_pixel.specs.Emitted.{Emit}
@@ -119,5 +119,5 @@ stored_known mode k f e {s} {b} {x} hs hb hx hg =
     let c = pixel_at f e.pixel in
     let y = pixel_step mode k (source_of e) c in
     let a : AlikePixel x y =
-        subst (λ (z : Pixel). AlikePixel z y) (sym (hx ∙ (λ i. pixel_step mode k (hs i) (hb i)))) (pixel_alike mode k (source_of e) (known_pixel c) c (known_alike c)) in
+    subst (λ (z : Pixel). AlikePixel z y) (sym (hx ∙ (λ i. pixel_step mode k (hs i) (hb i)))) (pixel_alike mode k (source_of e) (known_pixel c) c (known_alike c)) in
     hg ∙ put_alike f e.pixel a (kept_colors mode k (source_of e) c) (kept_coverage mode k (source_of e) c)

@@ -1,5 +1,4 @@
 use native.Mathlib.Omega.{arith}
-use mathlib.Core.Path.{sym}
 use Rattle.frame_paint.proofs.Filled.{filling_more, filling_done}
 use Rattle.frame_paint.proofs.fill.fill_run.Goals as goal
 

@@ -1,8 +1,5 @@
 -- Those of the run that are before this one are drawn, each as a step (`filled_drew`).
-use lib.ListN.{length}
-use Prim.Native.Nat.{◌-◌}
 use Rattle.frame.specs.Frame.{frame_of}
-use Rattle.frame_paint.specs.Row.{full_pixel}
 use Rattle.frame_paint.proofs.Filled.{Filling}
 use Rattle.frame_paint.proofs.fill.fill_run.Given as goal
 
