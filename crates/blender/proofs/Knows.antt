@@ -8,6 +8,7 @@ use borrow.Author.Tests.{le-leb}
 use lib.Dec.{eqb}
 use lib.IntN.{pos}
 use lib.Ieee.{Float, binary32, of_int, sub, div}
+use Rattle.std.proofs.Math.Bool.{and-false}
 use Rattle.num_float.specs.Color.{f0, f1}
 use Rattle.num_float.specs.Whole.{byte_of}
 use Rattle.state.specs.declared.RenderMode.{RenderMode}
@@ -20,7 +21,7 @@ use Rattle.blender.specs.Mux.{mux_of}
 use Rattle.blender.specs.Coverage.{overflow, overflows, blends}
 use Rattle.blender.specs.Known.{reject, alone, missing, any_coverage, where_unknown, color_known}
 use Rattle.blender.specs.Blend.{f8, source_of, factor_a, factor_b, mixed_of, bytes_of, blend_of, or_zero}
-use Rattle.num_float.proofs.Tests.{never}
+use Rattle.std.proofs.lemmas.Bool.{false≢true, not-true, and_parts}
 
 -- ---- coverages: nothing is known of the first, or the same of both
 pub data Less : Coverage → Coverage → Type 0 where
@@ -37,33 +38,33 @@ abbrev chain : Bool → Bool → Bool → Bool → Bool
 chain p s m w = cond p false (cond s true (cond m false w))
 
 chain_p : (p s m w : Bool) → chain p s m w ≡ true → p ≡ false
-chain_p true s m w t = never t
+chain_p true s m w t = absurd (false≢true t)
 chain_p false s m w t = refl
 
 chain_m : (p s m w : Bool) → chain p s m w ≡ true → s ≡ false → m ≡ false
-chain_m true s m w t e = never t
-chain_m false true m w t e = never (sym e)
-chain_m false false true w t e = never t
+chain_m true s m w t e = absurd (false≢true t)
+chain_m false true m w t e = absurd (false≢true (sym e))
+chain_m false false true w t e = absurd (false≢true t)
 chain_m false false false w t e = refl
 
 chain_w : (p s m w : Bool) → chain p s m w ≡ true → s ≡ false → w ≡ true
-chain_w true s m w t e = never t
-chain_w false true m w t e = never (sym e)
-chain_w false false true w t e = never t
+chain_w true s m w t e = absurd (false≢true t)
+chain_w false true m w t e = absurd (false≢true (sym e))
+chain_w false false true w t e = absurd (false≢true t)
 chain_w false false false w t e = t
 
 chain_yes : (p s m w : Bool) → p ≡ false → (s ≡ false → m ≡ false) → (s ≡ false → w ≡ true) → chain p s m w ≡ true
-chain_yes true s m w hp hm hw = never (sym hp)
+chain_yes true s m w hp hm hw = absurd (false≢true (sym hp))
 chain_yes false true m w hp hm hw = refl
-chain_yes false false true w hp hm hw = never (sym (hm refl))
+chain_yes false false true w hp hm hw = absurd (false≢true (sym (hm refl)))
 chain_yes false false false w hp hm hw = hw refl
 
 -- a colour that is known is not missing, and one that is not missing is not missing where more is known
 missing_less : (e a b : Bool) → (a ≡ true → b ≡ true) → (e && not a) ≡ false → (e && not b) ≡ false
 missing_less false a b h t = refl
-missing_less true false b h t = never (sym t)
+missing_less true false b h t = absurd (false≢true (sym t))
 missing_less true true true h t = refl
-missing_less true true false h t = never (h refl)
+missing_less true true false h t = absurd (false≢true (h refl))
 
 where_less : (b : Bool) {c d : Coverage} → Less c d → where_unknown c b ≡ true → where_unknown d b ≡ true
 where_less b (Less.none {d}) t = go d
@@ -81,8 +82,8 @@ module _ (mode : RenderMode) (alpha : Float) (n : ℕ) where
     where
       go : (f a o r : Bool) → (not (f || (a && not o)) || r) ≡ false → (not (f || (a && not false)) || r) ≡ false
       go true a o r t = t
-      go false true true true t = never (sym t)
-      go false true false true t = never (sym t)
+      go false true true true t = absurd (false≢true (sym t))
+      go false true false true t = absurd (false≢true (sym t))
       go false true o false t = refl
       go false false o r t = t
   alone_less Less.same t = t
@@ -139,11 +140,7 @@ pub known_all : (mode : RenderMode) (alpha : Float) (n c : ℕ) → color_known 
 unfolding color_known
 known_all mode alpha n c =
     let x = mux_of mode.blender_mux in
-    chain_yes (missing x.p true) (alone mode alpha n (Some c)) (missing x.m true) true (there (eqb x.p 1)) (λ t. there (eqb x.m 1)) (λ t. refl)
-  where
-    there : (e : Bool) → (e && not true) ≡ false
-    there true = refl
-    there false = refl
+    chain_yes (missing x.p true) (alone mode alpha n (Some c)) (missing x.m true) true (and-false (eqb x.p 1)) (λ t. and-false (eqb x.m 1)) (λ t. refl)
 
 -- ---- the bytes of a blend: of a pixel that stands alone they are P's
 same_bytes :
@@ -164,7 +161,7 @@ same_source i k color a {memory} {memory'} h t = go (eqb i 1) a t h
         → cond (eqb i 0) color (cond e memory (cond (eqb i 2) k.blend k.fog)) ≡ cond (eqb i 0) color (cond e memory' (cond (eqb i 2) k.blend k.fog))
     go false v t g = refl
     go true true t g = λ j. cond (eqb i 0) color (g refl j)
-    go true false t g = never (sym t)
+    go true false t g = absurd (false≢true (sym t))
 
 -- B, for two coverages that the memory may have
 same_share :
@@ -173,7 +170,7 @@ same_share :
 unfolding any_coverage factor_b
 same_share mode e Less.same Less.same t = refl
 same_share mode e {i = i} {j = j} Less.none Less.none t =
-    let n = not_coverage (eqb (mux_of mode.blender_mux).b 1) _ t in
+    let n = not-true (eqb (mux_of mode.blender_mux).b 1) (and_parts _ _ t).0 in
     (λ k. cond (eqb b 0) (sub binary32 f1 e) (cond (n k) (eighths i) rest)) ∙ sym (λ k. cond (eqb b 0) (sub binary32 f1 e) (cond (n k) (eighths j) rest))
   where
     b : ℕ
@@ -184,10 +181,6 @@ same_share mode e {i = i} {j = j} Less.none Less.none t =
 
     eighths : ℕ → Float
     eighths n = div binary32 (of_int binary32 (pos n)) f8
-
-    not_coverage : (b r : Bool) → (not b && r) ≡ true → b ≡ false
-    not_coverage true r q = never q
-    not_coverage false r q = refl
 
 -- where the colour is known, a blend gives the same bytes for two coverages that the memory may have, if it stands alone over both or over neither
 pub blend_same :
@@ -218,7 +211,7 @@ pub alone_blend_same :
 unfolding blend_of
 alone_blend_same mode k color shade n a memory memory' i j there h here too =
     rw (here, too)
-    (same_bytes mode.force_blend (factor_a x.a color.a k.fog.a shade) color.a true (same_source x.p k color a h there) (λ t. never (sym t)) (λ t. never (sym t)))
+    (same_bytes mode.force_blend (factor_a x.a color.a k.fog.a shade) color.a true (same_source x.p k color a h there) (λ t. absurd (false≢true (sym t))) (λ t. absurd (false≢true (sym t))))
   where
     x : Mux
     x = mux_of mode.blender_mux

@@ -19,7 +19,7 @@ use Rattle.blender.specs.Coverage.{overflows, blends}
 use Rattle.blender.specs.Known.{reject, alone, missing, any_coverage, where_unknown, color_known}
 use Rattle.blender.specs.Layer.{opaque_of, own_of, layered_of, steady_of, layer_of}
 use Rattle.blender.specs.Blend.{f8, source_of, factor_a, factor_b, mixed_of, bytes_of, blend_of}
-use Rattle.num_float.proofs.Tests.{never, both_left, both_right}
+use Rattle.std.proofs.lemmas.Bool.{false≢true, and_parts}
 use Rattle.blender.proofs.Solid.{own_source}
 use Rattle.blender.proofs.Knows.{full_alone}
 
@@ -58,17 +58,17 @@ layered mode alpha h =
     let a = not (eqb x.a 2) in
     let b = not (eqb x.b 1) in
     let r = not (reject mode alpha) in
-    let h5 = both_left (f && p && m && a && b) r h in
-    let h4 = both_left (f && p && m && a) b h5 in
-    let h3 = both_left (f && p && m) a h4 in
-    let h2 = both_left (f && p) m h3 in
+    let h5 = (and_parts (f && p && m && a && b) r h).0 in
+    let h4 = (and_parts (f && p && m && a) b h5).0 in
+    let h3 = (and_parts (f && p && m) a h4).0 in
+    let h2 = (and_parts (f && p) m h3).0 in
     record {
-      forced = both_left f p h2;
-      own = not-true (eqb x.p 1) (both_right f p h2);
-      memory = both_right (f && p) m h3;
-      shade = not-true (eqb x.a 2) (both_right (f && p && m) a h4);
-      coverage = not-true (eqb x.b 1) (both_right (f && p && m && a) b h5);
-      shared = not-true (reject mode alpha) (both_right (f && p && m && a && b) r h);
+      forced = (and_parts f p h2).0;
+      own = not-true (eqb x.p 1) (and_parts f p h2).1;
+      memory = (and_parts (f && p) m h3).1;
+      shade = not-true (eqb x.a 2) (and_parts (f && p && m) a h4).1;
+      coverage = not-true (eqb x.b 1) (and_parts (f && p && m && a) b h5).1;
+      shared = not-true (reject mode alpha) (and_parts (f && p && m && a && b) r h).1;
     }
 
 module _ {mode : RenderMode} {alpha : Float} (o : Layered mode alpha) where
@@ -134,8 +134,8 @@ steady mode h =
     let f = not mode.force_blend in
     let p = not (eqb x.p 1) in
     let a = not (eqb x.a 2) in
-    let h2 = both_left (f && p) a h in
-    record { free = not-true mode.force_blend (both_left f p h2); own = not-true (eqb x.p 1) (both_right f p h2); shade = not-true (eqb x.a 2) (both_right (f && p) a h) }
+    let h2 = (and_parts (f && p) a h).0 in
+    record { free = not-true mode.force_blend (and_parts f p h2).0; own = not-true (eqb x.p 1) (and_parts f p h2).1; shade = not-true (eqb x.a 2) (and_parts (f && p) a h).1 }
 
 module _ {mode : RenderMode} (o : Steady mode) (alpha : Float) where
   -- a full pixel stands alone over a known coverage
@@ -155,7 +155,7 @@ module _ {mode : RenderMode} (o : Steady mode) (alpha : Float) where
       ∙ go mode.antialias (reject mode alpha) (sym (λ i. not (o.own i) && (reject mode alpha || not (o.free i || mode.antialias))) ∙ h)
     where
       go : (a r : Bool) → (r || not a) ≡ false → (a && true && not r) ≡ true
-      go true true h = never (sym h)
+      go true true h = absurd (false≢true (sym h))
       go true false h = refl
-      go false true h = never (sym h)
-      go false false h = never (sym h)
+      go false true h = absurd (false≢true (sym h))
+      go false false h = absurd (false≢true (sym h))

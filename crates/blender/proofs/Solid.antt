@@ -15,7 +15,8 @@ use Rattle.blender.specs.Coverage.{overflows, blends}
 use Rattle.blender.specs.Known.{reject, alone, missing, any_coverage, where_unknown, color_known}
 use Rattle.blender.specs.Layer.{opaque_of, own_of}
 use Rattle.blender.specs.Blend.{source_of, factor_a, factor_b, mixed_of, bytes_of, blend_of}
-use Rattle.num_float.proofs.Tests.{never, and_false, or_true}
+use Rattle.std.proofs.lemmas.Bool.{false≢true}
+use Rattle.std.proofs.Math.Bool.{and-false, or-true}
 
 -- what is said of a pixel that is opaque
 pub record Opaque (mode : RenderMode) (alpha : Float) : Type 0 where
@@ -31,15 +32,15 @@ module _ (mode : RenderMode) (alpha : Float) where
       go :
           (p r f a : Bool) → eqb (mux_of mode.blender_mux).p 1 ≡ p → reject mode alpha ≡ r → mode.force_blend ≡ f → mode.antialias ≡ a
           → (not p && (r || not (f || a))) ≡ true → Opaque mode alpha
-      go true r f a ep er ef ea h = never h
+      go true r f a ep er ef ea h = absurd (false≢true h)
       go false true f a ep er ef ea h =
           record {
             own = ep;
-            alone = λ n c. ap (λ (t : Bool). not (blends mode n c) || t) er ∙ or_true (not (blends mode n c));
-            sure = ap (λ (t : Bool). mode.antialias && not mode.force_blend && not t) er ∙ and_false (mode.antialias && not mode.force_blend);
+            alone = λ n c. ap (λ (t : Bool). not (blends mode n c) || t) er ∙ or-true (not (blends mode n c));
+            sure = ap (λ (t : Bool). mode.antialias && not mode.force_blend && not t) er ∙ and-false (mode.antialias && not mode.force_blend);
           }
-      go false false true a ep er ef ea h = never h
-      go false false false true ep er ef ea h = never h
+      go false false true a ep er ef ea h = absurd (false≢true h)
+      go false false false true ep er ef ea h = absurd (false≢true h)
       go false false false false ep er ef ea h =
           record {
             own = ep;

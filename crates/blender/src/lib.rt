@@ -25,7 +25,7 @@ pub struct Source {
     pub count: u8,
 }
 
-// The blender's four selectors, each from 0 to 3.
+// The blender's four selectors, each from 0 to 3, by number as the word has them: what a number names turns on the selector.
 #[derive(Clone, Copy)]
 pub struct Mux {
     pub p: u32,
@@ -149,7 +149,8 @@ pub fn color_known(
             || (!lacking(mux.m, memory_rgb) && (coverage.is_some() || any_coverage(mode))))
 }
 
-// The colour itself, channel by channel: the compiler then chooses one of several by a branch, and no pixel waits for a copy in memory.
+// The colour itself, channel by channel: the compiler then chooses one of several by a branch, and no pixel waits for a copy in memory
+// (docs/landings/03-speed.md).
 fn copy(x: Rgba) -> Rgba
     ensures { result ≡ x }
 {

@@ -94,14 +94,6 @@ unfolding color_of
 color_alike k s t =
     joined_missing _ _ _ _ ∙ (λ n. channel_alike k s t 0 0 n || channel_alike k s t 1 1 n || channel_alike k s t 2 2 n || alpha_alike k s t n) ∙ sym (joined_missing _ _ _ _)
 
-none : (c : Option Rgba) → is_none c ≡ true → c ≡ None
-none (Some x) h = absurd (true≢false (sym h))
-none None h = refl
-
--- a colour that is none for one shade is none for each
-pub refused_alike : (k : Combiner) (s t : Rgba) → color_of k s ≡ None → color_of k t ≡ None
-refused_alike k s t e = none (color_of k t) (color_alike k t s ∙ ap is_none e)
-
 -- a colour that is there
 pub record Valued (c : Option Rgba) : Type 0 where
   pub color : Rgba

@@ -1,3 +1,2 @@
--- The laws of `combiner` for the crates above it, and what its answers mean.
+-- The laws of `combiner` for the crates above it.
 pub mod Known
-pub mod Means

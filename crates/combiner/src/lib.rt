@@ -20,7 +20,7 @@ pub struct Combiner {
     pub lod: f32,
 }
 
-// Red, green or blue by 0, 1 and 2, and alpha by any other number.
+// Red, green or blue by 0, 1 and 2, and alpha by any other number: as the Rust and `element` count channels, every number has a meaning.
 #[tactic(auto, unfolding(crate::specs::Combine::element))]
 fn pick_channel(c: Rgba, i: u8) -> f32
     ensures { result ≡ element c i }

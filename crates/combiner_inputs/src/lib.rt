@@ -71,6 +71,8 @@ pub struct CombinerSelectors {
     pub cyc1: CycleSel,
 }
 
+// ---- a slot's inputs by the number in its field: one table for each slot, as the console's papers have them
+
 // The colour slot a, of four bits.
 #[tactic(auto, unfolding(crate::specs::Combine::color_a, crate::specs::Combine::select))]
 pub fn color_a(idx: u32) -> ColorIn

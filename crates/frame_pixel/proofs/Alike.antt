@@ -9,7 +9,7 @@ use Rattle.combiner.specs.declared.Combiner.{Combiner}
 use Rattle.blender.specs.Coverage.{Coverage}
 use Rattle.std.specs.Prelude.{None, Some}
 use Rattle.blender.specs.declared.Source.{Source}
-use Rattle.num_float.proofs.Tests.{never}
+use Rattle.std.proofs.lemmas.Bool.{false≢true}
 use Rattle.frame_pixel.specs.declared.Pixel.{Pixel}
 use Rattle.frame_pixel.specs.declared.Colors.{Colors}
 use Rattle.frame_pixel.specs.Marks.{highest_mark, color_marked, coverage_marked, coverage_of, unknown, mark_of}
@@ -90,8 +90,8 @@ mark_le false (Some c) = omega arith
 -- a coverage that is marked after a step is not the byte that stood there
 byte_of_mark : (yes : Bool) (c : Coverage) (d e : ℕ) → coverage_marked (mark_of yes (not (unknown c))) ≡ true → coverage_byte c d ≡ coverage_byte c e
 unfolding mark_of
-byte_of_mark true None d e p = never p
-byte_of_mark false None d e p = never p
+byte_of_mark true None d e p = absurd (false≢true p)
+byte_of_mark false None d e p = absurd (false≢true p)
 byte_of_mark true (Some c) d e p = refl
 byte_of_mark false (Some c) d e p = refl
 
@@ -99,8 +99,8 @@ byte_of_mark false (Some c) d e p = refl
 byte_stays : (yes : Bool) (c : Coverage) (d : ℕ) → coverage_marked (mark_of yes (not (unknown c))) ≡ false → coverage_byte c d ≡ d
 unfolding mark_of
 byte_stays v None d p = refl
-byte_stays true (Some c) d p = never (sym p)
-byte_stays false (Some c) d p = never (sym p)
+byte_stays true (Some c) d p = absurd (false≢true (sym p))
+byte_stays false (Some c) d p = absurd (false≢true (sym p))
 
 -- ---- a step
 module _ (mode : RenderMode) (k : Combiner) (s : Source) (x : Pixel) where

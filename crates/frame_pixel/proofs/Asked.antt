@@ -8,7 +8,7 @@ use lib.Dec.{eqb}
 use Rattle.state.specs.declared.RenderMode.{RenderMode}
 use Rattle.std.specs.Prelude.{None, Some}
 use Rattle.blender.specs.Coverage.{destination_of}
-use Rattle.num_float.proofs.Tests.{and_false}
+use Rattle.std.proofs.Math.Bool.{and-false}
 use Rattle.frame_pixel.specs.Rules.{all_eight, fresh_coverage}
 
 -- ---- eight questions
@@ -21,7 +21,7 @@ all_yes asked said =
 pub last_no : (asked : ℕ → Bool) → asked 7 ≡ false → all_eight asked ≡ false
 last_no asked e =
     let others = asked 0 && asked 1 && asked 2 && asked 3 && asked 4 && asked 5 && asked 6 in
-    (λ i. others && e i) ∙ and_false others
+    (λ i. others && e i) ∙ and-false others
 
 -- ---- `destination` asked eight times
 module _ (mode : RenderMode) (n : ℕ) where

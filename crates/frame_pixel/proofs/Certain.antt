@@ -24,7 +24,8 @@ use Rattle.frame_pixel.specs.declared.Colors.{Colors}
 use Rattle.frame_pixel.specs.Marks.{color_marked, coverage_marked, unknown}
 use Rattle.frame_pixel.specs.Rules.{rule_f1, rule_f2, unit, memory_of, rule_f3, rule_f5, coverage_at, known_after, colors_after, coverage_after}
 use Rattle.frame_pixel.specs.Certain.{Completes, CertainColors, CertainCoverage, colors_over, SameAtEnds}
-use Rattle.num_float.proofs.Tests.{never, both_left, both_right, and_false}
+use Rattle.std.proofs.lemmas.Bool.{false≢true, and_parts}
+use Rattle.std.proofs.Math.Bool.{and-false}
 use Rattle.frame_pixel.proofs.Asked.{fresh_known}
 use Rattle.frame_pixel.proofs.Knows.{memory_too, same_colors, coverage_too, all_covered, all_colors}
 
@@ -53,7 +54,7 @@ module _ (x : Pixel) where
       }
 
   any : coverage_at x ≡ None → (c : ℕ) → c ≤ 7 → Completes (with_coverage c) x
-  any u c l = completes c l (λ t. never (ap unknown (sym (λ i. cond (t i) (Some x.coverage) None) ∙ u)))
+  any u c l = completes c l (λ t. absurd (false≢true (ap unknown (sym (λ i. cond (t i) (Some x.coverage) None) ∙ u))))
 
 -- ---- a coverage
 module _ (mode : RenderMode) (s : Source) (x : Pixel) where
@@ -88,7 +89,7 @@ module _ (mode : RenderMode) (k : Combiner) (s : Source) (x : Pixel)
     where
       go : (c : Coverage) → rule_f2 mode s c ≡ true → c ≡ None
       go None t = refl
-      go (Some c) t = never t
+      go (Some c) t = absurd (false≢true t)
 
   -- over whatever x may really be, the colours are F3's over any coverage that overflows as its own does
   colors_really :
@@ -145,7 +146,7 @@ module _ (mode : RenderMode) (k : Combiner) (s : Source) (x : Pixel)
   with_red r = record { red = r; green = 0; blue = 0; coverage = or_zero (coverage_at x); mark = 3 }
 
   no-color : color_marked x.mark ≡ false
-  no-color = not-true (color_marked x.mark) (both_right (eqb (mux_of mode.blender_mux).p 1) (not (color_marked x.mark)) gone)
+  no-color = not-true (color_marked x.mark) (and_parts (eqb (mux_of mode.blender_mux).p 1) (not (color_marked x.mark)) gone).1
 
   red_completes : (r : ℕ) → Completes (with_red r) x
   red_completes r =
@@ -153,9 +154,9 @@ module _ (mode : RenderMode) (k : Combiner) (s : Source) (x : Pixel)
         knows =
             record {
               mark1 = λ t. refl;
-              red = λ t. never (sym no-color ∙ t);
-              green = λ t. never (sym no-color ∙ t);
-              blue = λ t. never (sym no-color ∙ t);
+              red = λ t. absurd (false≢true (sym no-color ∙ t));
+              green = λ t. absurd (false≢true (sym no-color ∙ t));
+              blue = λ t. absurd (false≢true (sym no-color ∙ t));
               mark2 = λ t. refl;
               coverage = λ t. λ i. or_zero (cond (t i) (Some x.coverage) None);
             };
@@ -170,7 +171,7 @@ module _ (mode : RenderMode) (k : Combiner) (s : Source) (x : Pixel)
       let y = with_red r in
       ap (λ (c : Colors). c.red) (all_colors mode k s y (red_completes r).all)
       ∙ alone_blend_memory mode k s.color s.shade_alpha s.count (memory_of true y) y.coverage
-      (eqb-true (mux_of mode.blender_mux).p 1 (both_left (eqb (mux_of mode.blender_mux).p 1) (not (color_marked x.mark)) gone))
+      (eqb-true (mux_of mode.blender_mux).p 1 (and_parts (eqb (mux_of mode.blender_mux).p 1) (not (color_marked x.mark)) gone).0)
       (full_alone mode s.color.a s.count y.coverage forced eight)
 
   pub full_uncertain : (v : Colors) → CertainColors mode k s x v → ⊥
@@ -186,7 +187,7 @@ module _ (mode : RenderMode) (k : Combiner) (s : Source) (x : Pixel)
 module _ (mode : RenderMode) (k : Combiner) (s : Source) (x : Pixel) (doubt : rule_f2 mode s (coverage_at x) ≡ true) where
   left_unknown : known_after mode s x ≡ false
   unfolding known_after
-  left_unknown = (λ i. rule_f1 mode s (coverage_at x) (color_marked x.mark) && not (doubt i)) ∙ and_false (rule_f1 mode s (coverage_at x) (color_marked x.mark))
+  left_unknown = (λ i. rule_f1 mode s (coverage_at x) (color_marked x.mark) && not (doubt i)) ∙ and-false (rule_f1 mode s (coverage_at x) (color_marked x.mark))
 
   not_forced : mode.force_blend ≡ false
   unfolding rule_f2
@@ -194,9 +195,9 @@ module _ (mode : RenderMode) (k : Combiner) (s : Source) (x : Pixel) (doubt : ru
     where
       go : (u a f r : Bool) → (u && a && not f && not r) ≡ true → f ≡ false
       go u a false r t = refl
-      go true true true r t = never t
-      go true false true r t = never t
-      go false a true r t = never t
+      go true true true r t = absurd (false≢true t)
+      go true false true r t = absurd (false≢true t)
+      go false a true r t = absurd (false≢true t)
 
   pub full_given_up :
       s.count ≡ 8 → missing (mux_of mode.blender_mux).p (color_marked x.mark) ≡ false

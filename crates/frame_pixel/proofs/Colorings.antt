@@ -1,7 +1,7 @@
 -- What is known ahead of a pixel is what the rules give: an opaque pixel is answered yes, is not in doubt, and stores its own colour; a layered one is answered yes where the
 -- memory's colour is known, is never in doubt, and stores the sum; one that is blended is as `color_known` and `blend` together say; and a pixel whose A is not the shade's alpha does not turn on that. Assumes nothing.
 use Prim.Native.Nat.{ℕ}
-use mathlib.Core.Path.{◌≡◌, refl, sym, ap, ◌∙◌}
+use mathlib.Core.Path.{◌≡◌, refl, sym, ◌∙◌}
 use mathlib.Core.Bool.{Bool, true, false, cond, not, ◌&&◌}
 use lib.Dec.{eqb}
 use lib.Ieee.{Float}
@@ -22,7 +22,7 @@ use Rattle.frame_pixel.specs.declared.Pixel.{Pixel}
 use Rattle.frame_pixel.specs.declared.Colors.{Colors}
 use Rattle.frame_pixel.specs.Marks.{color_marked, unknown}
 use Rattle.frame_pixel.specs.Rules.{rule_f1, rule_f2, memory_of, rule_f3, rule_f4, rule_f5, coverage_at, known_after, colors_after, coverage_after, assembled, pixel_step}
-use Rattle.num_float.proofs.Tests.{never, and_true, and_false}
+use Rattle.std.proofs.Math.Bool.{and-true, and-false}
 use Rattle.frame_pixel.specs.Coloring.{stored_of, own_colors, over_colors, colored_of}
 
 -- colours that are stored where they are known
@@ -60,7 +60,7 @@ module _ (mode : RenderMode) (k : Combiner) (s : Source) (x : Pixel) (o : Layere
       let marked = color_marked x.mark in
       (λ i. layer_known o s.count c marked i && not (unknown c && mode.antialias && not (o.forced i) && not (reject mode s.color.a)))
       ∙ (λ i. marked && not (no (unknown c && mode.antialias) (not (reject mode s.color.a)) i))
-      ∙ and_true marked
+      ∙ and-true marked
     where
       no : (a r : Bool) → (a && false && r) ≡ false
       no true r = refl
@@ -137,7 +137,7 @@ module _ (mode : RenderMode) (k : Combiner) (s : Source) (x : Pixel) where
 
   pub in_doubt : rule_f2 mode s (coverage_at x) ≡ true → None ≡ colored_of mode k s x
   unfolding known_after
-  in_doubt h = no_colored ((λ i. rule_f1 mode s (coverage_at x) (color_marked x.mark) && not (h i)) ∙ and_false (rule_f1 mode s (coverage_at x) (color_marked x.mark)))
+  in_doubt h = no_colored ((λ i. rule_f1 mode s (coverage_at x) (color_marked x.mark) && not (h i)) ∙ and-false (rule_f1 mode s (coverage_at x) (color_marked x.mark)))
 
   pub not_known : rule_f1 mode s (coverage_at x) (color_marked x.mark) ≡ false → None ≡ colored_of mode k s x
   unfolding known_after
@@ -171,7 +171,7 @@ module _ (mode : RenderMode) (k : Combiner) (s : Source) (x : Pixel) where
 
       asked : color_known mode s.color.a s.count (coverage_at x) (is_some m) ≡ known_after mode s x
       asked =
-          sym (and_true (color_known mode s.color.a s.count (coverage_at x) (is_some m)))
+          sym (and-true (color_known mode s.color.a s.count (coverage_at x) (is_some m)))
           ∙ (λ i. color_known mode s.color.a s.count (coverage_at x) (known i) && not (sym sure i))
 
       told : stored_of bytes ≡ rule_f3 mode k s (coverage_at x) (memory_of (color_marked x.mark) x)

@@ -11,7 +11,7 @@ use Rattle.blender.specs.Coverage.{destination_of}
 use Rattle.blender.specs.Blend.{or_zero}
 use Rattle.blender.specs.Settled.{settled_of}
 use Rattle.blender.proofs.Settled.{one_number, ends_same, settled_ends}
-use Rattle.num_float.proofs.Tests.{never}
+use Rattle.std.proofs.lemmas.Bool.{false≢true}
 use Rattle.frame_pixel.specs.Marks.{unknown}
 use Rattle.frame_pixel.specs.Rules.{fresh_coverage}
 use Rattle.frame_pixel.proofs.Asked.{last_no, fresh_known}
@@ -40,7 +40,7 @@ module _ (mode : RenderMode) (n : ℕ) where
     where
       go : (b : Bool) → eqb (d 7) (d 0) ≡ b → cond b (Some (d 0)) None ≡ Some v → d c ≡ v
       go true t q = ends_same mode n (eqb-true (d 7) (d 0) t) c ∙ ap or_zero q
-      go false t q = never (sym (ap unknown q))
+      go false t q = absurd (false≢true (sym (ap unknown q)))
 
   -- the closed form
   pub fresh_settled : 1 ≤ n → n ≤ 8 → fresh_coverage mode n ≡ settled_of mode n

@@ -24,7 +24,8 @@ use Rattle.frame_pixel.specs.Marks.{color_marked, coverage_marked}
 use Rattle.frame_pixel.specs.Rules.{rule_f1, rule_f2, memory_of, rule_f3, rule_f4, fresh_coverage, rule_f5, coverage_at, known_after, colors_after, coverage_after, assembled, pixel_step}
 use Rattle.frame_pixel.specs.Coloring.{own_colors, over_colors}
 use Rattle.frame_pixel.specs.Full.{is_full, FullOf, Enough, full_coverage, full_with, full_step}
-use Rattle.num_float.proofs.Tests.{never, and_false}
+use Rattle.std.proofs.lemmas.Bool.{false≢true}
+use Rattle.std.proofs.Math.Bool.{and-false}
 use Rattle.frame_pixel.proofs.Asked.{fresh_known}
 use Rattle.frame_pixel.proofs.Eight.{fresh_unknown}
 use Rattle.frame_pixel.proofs.Colorings.{where_known, opaque_yes, opaque_colors, layered_known, layered_colors}
@@ -39,7 +40,7 @@ picked :
     (zero one two fills : Bool) (c d : ℕ) → d ≡ 7 → (zero || two) ≡ fills → (zero ≡ true → two ≡ false) → (one ≡ true → (zero || two) ≡ false)
     → cond zero d (cond one c (cond two 7 c)) ≡ cond fills 7 c
 picked true one two fills c d e h p q = e ∙ (λ i. cond (h i) 7 c)
-picked false true true fills c d e h p q = never (sym (q refl))
+picked false true true fills c d e h p q = absurd (false≢true (sym (q refl)))
 picked false true false fills c d e h p q = λ i. cond (h i) 7 c
 picked false false true fills c d e h p q = λ i. cond (h i) 7 c
 picked false false false fills c d e h p q = λ i. cond (h i) 7 c
@@ -95,7 +96,7 @@ module _ (mode : RenderMode) (k : Combiner) (s : Source) (x : Pixel) (n : s.coun
     unfolding rule_f1 rule_f2
     steady_verdict true marked c = λ i. ((λ j. color_known mode s.color.a (n j) (Some c) marked) ∙ steady_known o s.color.a c marked) i && true
     steady_verdict false marked c =
-        (λ i. color_known mode s.color.a s.count None marked && not (steady_doubt o s.color.a h i)) ∙ and_false (color_known mode s.color.a s.count None marked)
+        (λ i. color_known mode s.color.a s.count None marked && not (steady_doubt o s.color.a h i)) ∙ and-false (color_known mode s.color.a s.count None marked)
 
     steady_yes : known_after mode s x ≡ coverage_marked x.mark
     unfolding known_after
@@ -107,7 +108,7 @@ module _ (mode : RenderMode) (k : Combiner) (s : Source) (x : Pixel) (n : s.coun
         let alone = (λ i. alone mode s.color.a (n i) (Some c)) ∙ steady_alone o s.color.a c in
         let b = alone_blend mode k s.color memory s.shade_alpha s.count c o.own alone in
         λ i. record { red = b.0 i; green = b.1.0 i; blue = b.1.1 i }
-    steady_stored false c memory e = never e
+    steady_stored false c memory e = absurd (false≢true e)
 
     steady_colors : colors_after mode k s x ≡ cond (coverage_marked x.mark) (own_colors mode k s.color) (rule_f4 x)
     unfolding colors_after
@@ -125,7 +126,7 @@ module _ (mode : RenderMode) (k : Combiner) (s : Source) (x : Pixel) (n : s.coun
     own_says false e true et h =
         let o = steady mode et in
         (sym (steady_yes o e), (λ i. cond (coverage_marked x.mark) (f.own i) (rule_f4 x)) ∙ sym (steady_colors o e))
-    own_says false e false et h = never h
+    own_says false e false et h = absurd (false≢true h)
 
     full_says : (l : Bool) → full.layered ≡ l → (l || (steady_of mode || full.sure)) ≡ true
         → Says (cond l (color_marked x.mark) (full.sure || coverage_marked x.mark)) (cond l (over_colors full.layer (rule_f4 x)) full.own)

@@ -23,18 +23,19 @@ use Rattle.frame_pixel.specs.declared.Colors.{Colors}
 use Rattle.frame_pixel.specs.Marks.{color_marked, coverage_marked, mark_of}
 use Rattle.frame_pixel.specs.Rules.{rule_f1, rule_f2, memory_of, rule_f3, rule_f4, fresh_coverage, rule_f5, coverage_at, known_after, colors_after, coverage_after, assembled, pixel_step}
 use Rattle.frame_pixel.specs.Knows.{KnowsPixel, AllKnownPixel, console_step}
-use Rattle.num_float.proofs.Tests.{never, both_left, both_right, or_true}
+use Rattle.std.proofs.lemmas.Bool.{false≢true, and_parts}
+use Rattle.std.proofs.Math.Bool.{or-true}
 use Rattle.frame_pixel.proofs.Eight.{fresh_same}
 use Rattle.frame_pixel.proofs.Alike.{color_after, covered_after, colors-after}
 
 -- ---- what is known of two coverages, by their marks and bytes
 less_of : (a b : Bool) (c d : ℕ) → (a ≡ true → b ≡ true) → (a ≡ true → d ≡ c) → Less (cond a (Some c) None) (cond b (Some d) None)
 less_of false b c d p q = Less.none
-less_of true false c d p q = never (p refl)
+less_of true false c d p q = absurd (false≢true (p refl))
 less_of true true c d p q = subst (λ (k : ℕ). Less (Some c) (Some k)) (sym (q refl)) Less.same
 
 of_less : (a b : Bool) (c d : ℕ) → Less (cond a (Some c) None) (cond b (Some d) None) → a ≡ true → (b ≡ true) × (d ≡ c)
-of_less false b c d l t = never t
+of_less false b c d l t = absurd (false≢true t)
 of_less true false c d l t = elim l [ ]
 of_less true true c d Less.same t = (refl, refl)
 
@@ -87,15 +88,15 @@ sure_alone mode s n {i = i} {j = j} t Less.none Less.none =
     go : (a f r o q : Bool) → (true && a && not f && not r) ≡ false → (not (f || (a && o)) || r) ≡ (not (f || (a && q)) || r)
     go a true r o q t = refl
     go false false r o q t = refl
-    go true false false o q t = never (sym t)
-    go true false true o q t = or_true (not o) ∙ sym (or_true (not q))
+    go true false false o q t = absurd (false≢true (sym t))
+    go true false true o q t = or-true (not o) ∙ sym (or-true (not q))
 
 module _ (mode : RenderMode) (s : Source) (c : Coverage) (a : Bool) (known : (rule_f1 mode s c a && not (rule_f2 mode s c)) ≡ true) where
   said : rule_f1 mode s c a ≡ true
-  said = both_left (rule_f1 mode s c a) (not (rule_f2 mode s c)) known
+  said = (and_parts (rule_f1 mode s c a) (not (rule_f2 mode s c)) known).0
 
   sure : rule_f2 mode s c ≡ false
-  sure = not-true (rule_f2 mode s c) (both_right (rule_f1 mode s c a) (not (rule_f2 mode s c)) known)
+  sure = not-true (rule_f2 mode s c) (and_parts (rule_f1 mode s c a) (not (rule_f2 mode s c)) known).1
 
   module _ (d : Coverage) (b : Bool) (l : Less c d) (h : a ≡ true → b ≡ true) where
     yes_too : (rule_f1 mode s d b && not (rule_f2 mode s d)) ≡ true

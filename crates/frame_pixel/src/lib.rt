@@ -8,7 +8,7 @@ ghost use Rattle.blender.specs.Joined.{or_zeros};
 ghost use Rattle.blender.specs.Settled.{full_from, settled_clamp};
 ghost use Rattle.frame_pixel.specs.Marks.{color_marked, coverage_marked, mark_of};
 ghost use Rattle.frame_pixel.specs.Rules.{rule_f2, unit, memory_of, rule_f4, fresh_coverage, rule_f5, coverage_at, assembled, pixel_step};
-ghost use Rattle.frame_pixel.specs.Coloring.{stored_of, own_colors, over_byte, over_colors, ColoringOf, colored_of};
+ghost use Rattle.frame_pixel.specs.Coloring.{stored_of, colors_of, own_colors, over_byte, over_colors, ColoringOf, colored_of};
 
 use blender::layer::Layer;
 use blender::{Coverage, Source};
@@ -35,6 +35,26 @@ pub struct Colors {
     pub blue: u8,
 }
 
+impl Pixel {
+    // F4.
+    pub fn colors(self) -> Colors
+        ensures { result ≡ rule_f4 self }
+    {
+        Colors {
+            red: self.red,
+            green: self.green,
+            blue: self.blue,
+        }
+    }
+
+    // The coverage, where it is marked.
+    pub fn known_coverage(self) -> Coverage
+        ensures { result ≡ coverage_at self }
+    {
+        coverage_marked(self.mark).then_some(self.coverage)
+    }
+}
+
 // What is known of a pixel's colour ahead of the memory: the bytes of an opaque one, a layer over the memory's colour, or nothing, so that it is blended.
 #[derive(Clone, Copy)]
 pub enum Coloring {
@@ -52,6 +72,33 @@ impl From<Rgba8> for Colors {
             red: bytes.r,
             green: bytes.g,
             blue: bytes.b,
+        }
+    }
+}
+
+// The bytes of a colour.
+impl From<Rgba> for Colors {
+    ghost from_gives = { λ color colors. colors ≡ colors_of color };
+
+    fn from(color: Rgba) -> Colors {
+        Colors {
+            red: num_float::byte_of(color.r),
+            green: num_float::byte_of(color.g),
+            blue: num_float::byte_of(color.b),
+        }
+    }
+}
+
+// What a word is made of: it takes nothing of the alpha.
+impl From<Colors> for Rgba8 {
+    ghost from_gives = { λ colors bytes. bytes ≡ record { r = colors.red; g = colors.green; b = colors.blue; a = 0 } };
+
+    fn from(colors: Colors) -> Rgba8 {
+        Rgba8 {
+            r: colors.red,
+            g: colors.green,
+            b: colors.blue,
+            a: 0,
         }
     }
 }
@@ -76,13 +123,6 @@ pub fn mark_of(known: bool, covered: bool) -> u8
     ensures { result ≡ mark_of known covered }
 {
     u8::from(known) + 2 * u8::from(covered)
-}
-
-// The coverage, where it is marked.
-fn coverage_at(bytes: Pixel) -> Coverage
-    ensures { result ≡ coverage_at bytes }
-{
-    coverage_marked(bytes.mark).then_some(bytes.coverage)
 }
 
 // F2.
@@ -118,22 +158,11 @@ fn memory_of(marked: bool, bytes: Pixel) -> Option<Rgba>
     None
 }
 
-// F4.
-fn colors_of(bytes: Pixel) -> Colors
-    ensures { result ≡ rule_f4 bytes }
-{
-    Colors {
-        red: bytes.red,
-        green: bytes.green,
-        blue: bytes.blue,
-    }
-}
-
 // F1 to F3 of a pixel that is blended: its colour, if it is then known.
 fn blended(mode: RenderMode, combiner: Combiner, source: Source, bytes: Pixel) -> Option<Colors>
     ensures { result ≡ colored_of mode combiner source bytes }
 {
-    let coverage = coverage_at(bytes);
+    let coverage = bytes.known_coverage();
     if in_doubt(mode, source, coverage) {
         return None;
     }
@@ -151,7 +180,7 @@ fn color_by_rules(
 ) -> Option<Colors>
     ensures { result ≡ colored_of mode combiner source bytes }
 {
-    let coverage = coverage_at(bytes);
+    let coverage = bytes.known_coverage();
     let color = source.color;
     let marked = color_marked(bytes.mark);
     let doubt = in_doubt(mode, source, coverage);
@@ -195,7 +224,7 @@ fn laid(layer: Layer, bytes: Pixel) -> Option<Colors>
     ensures { result ≡ (if color_marked bytes.mark then Some (over_colors layer (rule_f4 bytes)) else None) }
 {
     if color_marked(bytes.mark) {
-        return Some(over_colors(layer, colors_of(bytes)));
+        return Some(over_colors(layer, bytes.colors()));
     }
     None
 }
@@ -272,7 +301,7 @@ fn next_coverage(mode: RenderMode, count: u8, coverage: Coverage) -> Coverage
 fn assemble(color: Option<Colors>, coverage: Coverage, old: Pixel) -> Pixel
     ensures { result ≡ assembled (is_some color) (unwrap_or color (rule_f4 old)) coverage old.coverage }
 {
-    let colors = color.unwrap_or(colors_of(old));
+    let colors = color.unwrap_or(old.colors());
     Pixel {
         red: colors.red,
         green: colors.green,
@@ -289,7 +318,7 @@ pub fn rules(mode: RenderMode, combiner: Combiner, source: Source, bytes: Pixel)
     ensures { result ≡ pixel_step mode combiner source bytes }
 {
     let color = color_by_rules(mode, combiner, source, bytes);
-    let coverage = next_coverage(mode, source.count, coverage_at(bytes));
+    let coverage = next_coverage(mode, source.count, bytes.known_coverage());
     assemble(color, coverage, bytes)
 }
 
@@ -307,7 +336,7 @@ pub fn step(
     ensures { result ≡ pixel_step mode combiner source bytes }
 {
     let color = color_after(mode, combiner, source, coloring, bytes);
-    let coverage = next_coverage(mode, source.count, coverage_at(bytes));
+    let coverage = next_coverage(mode, source.count, bytes.known_coverage());
     assemble(color, coverage, bytes)
 }
 
@@ -316,10 +345,5 @@ pub fn step(
 pub fn own_colors(mode: RenderMode, combiner: Combiner, color: Rgba) -> Colors
     ensures { result ≡ own_colors mode combiner color }
 {
-    let own = blender::own_color(mode, combiner, color);
-    Colors {
-        red: num_float::byte_of(own.r),
-        green: num_float::byte_of(own.g),
-        blue: num_float::byte_of(own.b),
-    }
+    blender::own_color(mode, combiner, color).into()
 }

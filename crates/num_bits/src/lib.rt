@@ -5,7 +5,7 @@ ghost use Rattle.std.specs.Prelude.{◌≡◌, ◌<◌};
 ghost use Rattle.num_bits.specs.Field.{field};
 ghost use Rattle.num_bits.specs.Ones.{ones_of};
 
-// The n bits of v from bit pos up, as the Rust's bits.
+// The n bits of v from bit pos up, as the Rust's bits: of a u32, at any width.
 #[tactic(auto, using(crate::proofs::Fields::masked))]
 pub fn bits(v: u32, pos: u32, n: u32) -> u32
     requires { (pos < 32) × (n < 32) }

@@ -3,12 +3,12 @@ use mathlib.Core.Path.{◌≡◌, refl, sym, ap, ◌∙◌, subst}
 use Prim.Native.Nat.{ℕ, zero, suc, ◌+◌, ◌*◌, ◌/◌, ◌^◌, ◌≤◌, ◌<◌, min}
 use native.Mathlib.Nat.{zero-mul, mul-one, one-mul, mul_right_comm, le_of_eq, div-lt_iff_lt-mul}
 use native.Mathlib.Omega.{arith}
-use mathlib.Core.Bool.{Bool, true, false, cond, ◌&&◌, ◌||◌, true≢false}
+use mathlib.Core.Bool.{Bool, true, false, not, cond, ◌&&◌, ◌||◌, true≢false}
 use borrow.Author.Tests.{ltb-true, ltb-false}
 use lib.IntN.{ℤ}
 use lib.Dec.{T, ltb, eqb, ltb→lt, eqb→eq}
-use lib.Ieee.{Float, nan, inf, fin, binary32, up, down, lt, le, mul, round, units, odd}
-use lib.Ieee.Fits.{down_pos, round_is}
+use lib.Ieee.{Float, nan, inf, fin, binary32, binary64, up, down, lt, le, mul, round, units, odd, fits, is_nan}
+use lib.Ieee.Fits.{down_pos, round_is, mul-fits}
 use lib.Ieee.Exact.{HasValue}
 use lib.Ieee.Order.{round_mono, drop, kept}
 use lib.Ieee.Scale.{round_same, round_val, round_under, finite, grid}
@@ -16,6 +16,7 @@ use lib.Ieee.Positive.{num, den, den_pos}
 use Rattle.num_float.specs.Color.{f0, f1, clamped}
 use Rattle.num_float.specs.Whole.{whole, near, f255, byte_of}
 use Rattle.num_float.proofs.Cut.{whole_inside}
+use Rattle.num_float.proofs.Placed.{LowCoarse, coarse_itself, widens}
 use Rattle.num_float.proofs.Clipped.{above0, upto, clipped}
 
 -- ---- n / d times 255, for an n up to d
@@ -79,7 +80,7 @@ negative : (g : ℕ → ℕ → ℕ) (cap a c : ℕ) → whole g cap (round bina
 negative g cap a c = ap (λ (y : Float). whole g cap y) (round_is binary32 true a c) ∙ negative_units g cap (kept 24 (a * 2 ^ 149) c) (drop 24 (a * 2 ^ 149) c)
 
 -- ---- the product of v, cut off
-abbrev pub scaled_up : Float → Float
+abbrev scaled_up : Float → Float
 scaled_up v = mul binary32 (upto f1 (above0 v)) f255
 
 clamped_fin : (m : ℕ) (e : ℤ) → HasValue (clamped (fin false m e)) false (min (m * up e) (down e)) (down e)
@@ -124,12 +125,28 @@ few n d D h =
     let l : (n * 2 + d) / (d * 2) < 256 = (div-lt_iff_lt-mul {k = d * 2} (omega arith)).1 (omega arith) in
     omega arith
 
--- the product is from 0 to 255, and its nearest whole number, halves up, is `byte_of`
-pub byte-of : (v : Float) → Byte (scaled_up v) × (near (num (scaled_up v)) (den (scaled_up v)) ≤ 255) × (near (num (scaled_up v)) (den (scaled_up v)) ≡ byte_of v)
-byte-of v =
+-- y is 255 times v cut off, as the two selects leave it in turn: it is from 0 to 255, and its nearest whole number, halves up, is `byte_of`
+pub record Product (v y : Float) : Type 0 where
+  pub widened : T (fits binary64 y && not (is_nan y))
+  pub low : LowCoarse y
+  pub small : near (num y) (den y) ≤ 255
+  pub is : near (num y) (den y) ≡ byte_of v
+
+scaled-product : (v : Float) → Product v (scaled_up v)
+scaled-product v =
     let s = same v in
     let y = scaled_up v in
     let b : Byte y = subst Byte (sym s.4) (product s.0 s.1 s.2 s.3) in
-    let l : near (num y) (den y) ≤ 255 = few (num y) (den y) (den_pos y) b.1 in
+    let h : num y ≤ 131072 * den y = omega (arith, b.1, den_pos y) in
     let w : whole near 255 y ≡ byte_of v = ap (λ (z : Float). whole near 255 z) s.4 ∙ sym s.5 in
-    (b, l, omega (arith, whole_inside near 255 y b.0))
+    let f = mul-fits binary32 (upto f1 (above0 v)) f255 in
+    let l = few (num y) (den y) (den_pos y) b.1 in
+    record {
+      widened = widens y (num y) (den y) f b.0;
+      low = (b.0, (h, coarse_itself y f));
+      small = l;
+      is = omega (arith, whole_inside near 255 y b.0);
+    }
+
+pub product_of : {v z r : Float} → z ≡ above0 v → r ≡ upto f1 z → Product v (mul binary32 r f255)
+product_of {v} p q = subst (λ (x : Float). Product v (mul binary32 x f255)) (sym (q ∙ ap (λ (x : Float). upto f1 x) p)) (scaled-product v)

@@ -1,5 +1,5 @@
 -- `quarter_of` from the size of x, cut off at 16384 and taken four times in f64, which is exact. Assumes nothing.
-use mathlib.Core.Path.{◌≡◌, refl, sym, ap, ◌∙◌}
+use mathlib.Core.Path.{◌≡◌, refl, sym, ap, ◌∙◌, subst}
 use Prim.Native.Nat.{ℕ, ◌+◌, ◌*◌, ◌/◌, ◌^◌, ◌≤◌, ◌<◌, min}
 use native.Mathlib.Nat.{zero-mul, mul_right_comm, lt_of_lt_of_le, le_trans, le_of_eq, mul-le-mul_right, le_of_mul-le-mul_right, div-lt_iff_lt-mul, div-eq_of_lt-le}
 use native.Mathlib.Omega.{arith}
@@ -93,7 +93,7 @@ size_of nan = 0
 size_of (inf s) = 65536
 size_of (fin s m e) = min (near (m * up e * 4) (down e)) 65536
 
-pub size_of_le : (x : Float) → size_of x ≤ 65536
+size_of_le : (x : Float) → size_of x ≤ 65536
 size_of_le nan = omega arith
 size_of_le (inf s) = omega arith
 size_of_le (fin s m e) = omega arith
@@ -116,21 +116,14 @@ cut-size true m e = go (ltb 0 (m * up e * 1 + 0 * down e)) (ltb-false 0 (m * up 
         let is : min (m * up e) (16384 * down e) ≡ 0 = omega arith in
         (refl, zero-mul (down e) ∙ sym (ap (λ (x : ℕ). x * 1) is))
 
-pub cut_fits : (x : Float) → T (fits binary32 x) → T (fits binary32 (cut_size x))
+cut_fits : (x : Float) → T (fits binary32 x) → T (fits binary32 (cut_size x))
 cut_fits x t =
     let a : T (fits binary32 (size x)) = cond-fits binary32 (lt x f0) (neg x) x (neg-fits binary32 x t) t in
     let b : T (fits binary32 (above0 (size x))) = cond-fits binary32 (lt f0 (size x)) (size x) f0 a (unfold fits in tt) in
     cond-fits binary32 (lt (above0 (size x)) (top 14)) (above0 (size x)) (top 14) b (unfold fits in tt)
 
-pub cut_value : (x : Float) → HasValue (cut_size x) false (num (cut_size x)) (den (cut_size x))
-unfolding lt neg
-cut_value nan = (refl, refl)
-cut_value (inf true) = (refl, refl)
-cut_value (inf false) = (refl, refl)
-cut_value (fin s m e) = own (cut_size (fin s m e)) (min (m * up e) (16384 * down e)) (down e) (cut-size s m e)
-
 -- the product's nearest whole number is the size of `quarter_of`
-pub quarters_near : (x : Float) → T (fits binary32 x) → LowCoarse (quarters x) × (near (num (quarters x)) (den (quarters x)) ≡ size_of x)
+quarters_near : (x : Float) → T (fits binary32 x) → LowCoarse (quarters x) × (near (num (quarters x)) (den (quarters x)) ≡ size_of x)
 unfolding lt neg mul round
 quarters_near nan t = (((refl, refl), (omega arith, inl (0, refl))), refl)
 quarters_near (inf true) t = (((refl, refl), (omega arith, inl (65536 * 2 ^ 26, refl))), refl)
@@ -141,6 +134,19 @@ quarters_near (fin s m e) t =
     let l : n ≤ 16384 * D = omega arith in
     let q = fourfold (cut_size (fin s m e)) n D (cut_fits (fin s m e) t) (down_pos e) l (cut-size s m e) in
     (q.0, q.1 ∙ capped (m * up e) D (down_pos e))
+
+-- y is four times the size of x cut off by the two selects in turn: what `nearest` asks of it and what it gives
+pub record Quarters (x y : Float) : Type 0 where
+  pub low : LowCoarse y
+  pub small : near (num y) (den y) ≤ 65536
+  pub is : near (num y) (den y) ≡ size_of x
+
+pub quarters_of : {x u z r : Float} → T (fits binary32 x) → u ≡ size x → z ≡ above0 u → r ≡ upto (top 14) z → Quarters x (mul binary64 r f4)
+quarters_of {x = x} {u = u} {z = z} {r = r} t o p q =
+    let k = quarters_near x t in
+    let cut : r ≡ cut_size x = q ∙ ap (λ (v : Float). upto (top 14) v) (p ∙ ap (λ (v : Float). above0 v) o) in
+    let n : near (num (quarters x)) (den (quarters x)) ≤ 65536 = omega (arith, k.1, size_of_le x) in
+    subst (λ (v : Float). Quarters x (mul binary64 v f4)) (sym cut) (record { low = k.0; small = n; is = k.1 })
 
 -- with its sign
 pub quarter_below : (x : Float) → lt x f0 ≡ true → neg_ℤ (pos (size_of x)) ≡ quarter_of x

@@ -22,8 +22,10 @@ abbrev pub clip : Float → Float
 clip x = upto (top 17) (above0 x)
 
 -- z is from 0 to 2 ^ 17, and rounds to what x rounds to
-abbrev pub Index : (ℕ → ℕ → ℕ) → Float → Float → Type 0
-Index g x z = HasValue z false (num z) (den z) × (num z ≤ 131072 * den z) × (g (num z) (den z) ≡ whole g 131072 x)
+pub record Index (g : ℕ → ℕ → ℕ) (x z : Float) : Type 0 where
+  pub value : HasValue z false (num z) (den z)
+  pub bounded : num z ≤ 131072 * den z
+  pub is : g (num z) (den z) ≡ whole g 131072 x
 
 module _ (g : ℕ → ℕ → ℕ) (none : (b : ℕ) → 0 < b → g 0 b ≡ 0) (all : (n a b : ℕ) → 0 < b → n * b ≤ a → n ≤ g a b) (most : (n a b : ℕ) → 0 < b → a ≤ n * b → g a b ≤ n) where
   none_1 : g 0 1 ≡ 0
@@ -39,10 +41,10 @@ module _ (g : ℕ → ℕ → ℕ) (none : (b : ℕ) → 0 < b → g 0 b ≡ 0) 
   under m e true p q =
       let l : m * up e ≤ 131072 * down e = omega (arith, p refl) in
       let hi : g (m * up e) (down e) ≤ 131072 = most 131072 (m * up e) (down e) (down_pos e) l in
-      ((refl, refl), l, omega arith)
+      record { value = (refl, refl); bounded = l; is = omega arith }
   under m e false p q =
       let lo : 131072 ≤ g (m * up e) (down e) = all 131072 (m * up e) (down e) (down_pos e) (omega (arith, q refl)) in
-      ((refl, refl), omega arith, omega (arith, all_1))
+      record { value = (refl, refl); bounded = omega arith; is = omega (arith, all_1) }
 
   over : (m : ℕ) (e : ℤ) (b : Bool) → (b ≡ false → m * up e * 1 ≤ 0 * down e) → Index g (fin false m e) (upto (top 17) (cond b (fin false m e) f0))
   unfolding lt
@@ -50,23 +52,33 @@ module _ (g : ℕ → ℕ → ℕ) (none : (b : ℕ) → 0 < b → g 0 b ≡ 0) 
   over m e false q =
       let z : m * up e ≡ 0 = omega (arith, q refl, zero-mul (down e)) in
       let is : g (m * up e) (down e) ≡ 0 = ap (λ (x : ℕ). g x (down e)) z ∙ none (down e) (down_pos e) in
-      ((refl, refl), omega arith, omega (arith, none_1))
+      record { value = (refl, refl); bounded = omega arith; is = omega (arith, none_1) }
 
   index : (x : Float) → Index g x (clip x)
   unfolding lt
-  index nan = ((refl, refl), omega arith, none_1)
-  index (inf true) = ((refl, refl), omega arith, none_1)
-  index (inf false) = ((refl, refl), omega arith, all_1)
-  index (fin true m e) = ((refl, refl), omega arith, none_1)
+  index nan = record { value = (refl, refl); bounded = omega arith; is = none_1 }
+  index (inf true) = record { value = (refl, refl); bounded = omega arith; is = none_1 }
+  index (inf false) = record { value = (refl, refl); bounded = omega arith; is = all_1 }
+  index (fin true m e) = record { value = (refl, refl); bounded = omega arith; is = none_1 }
   index (fin false m e) = over m e (ltb (0 * down e) (m * up e * 1)) (ltb-false (0 * down e) (m * up e * 1))
 
-pub floor-index : (x : Float) → Index floor x (clip x)
+floor-index : (x : Float) → Index floor x (clip x)
 floor-index = index floor floor_none floor_all floor_below
 
-pub ceil-index : (x : Float) → Index ceil x (clip x)
+ceil-index : (x : Float) → Index ceil x (clip x)
 ceil-index = index ceil ceil_none ceil_all ceil_below
 
--- ---- the ceiling of z, by whether its floor is below z
+-- the same of y, which is x cut off by the two selects in turn
+cut_off : (g : ℕ → ℕ → ℕ) (x z y : Float) → Index g x (clip x) → z ≡ above0 x → y ≡ upto (top 17) z → Index g x y
+cut_off g x z y i p q = subst (Index g x) (sym (q ∙ ap (λ (v : Float). upto (top 17) v) p)) i
+
+pub floor_cut : {x z y : Float} → z ≡ above0 x → y ≡ upto (top 17) z → Index floor x y
+floor_cut {x = x} {z = z} {y = y} p q = cut_off floor x z y (floor-index x) p q
+
+pub ceil_cut : {x z y : Float} → z ≡ above0 x → y ≡ upto (top 17) z → Index ceil x y
+ceil_cut {x = x} {z = z} {y = y} p q = cut_off ceil x z y (ceil-index x) p q
+
+-- ---- the ceiling, by whether the whole part is below
 -- w is the whole number n, and what w < x says
 pub beside : (w x : Float) (n : ℕ) → HasValue w false n 1 → HasValue x false (num x) (den x) → (lt w x ≡ true → n * den x < num x) × (lt w x ≡ false → num x ≤ n * den x)
 unfolding lt
@@ -82,15 +94,21 @@ beside (fin false k d) (fin false m e) n v u =
       (λ p. le_of_mul-le-mul_right (subst (λ (x : ℕ). m * up e * down d ≤ x) i (ltb-false (k * up d * down e) (m * up e * down d) p)) (down_pos d)),
     )
 
-abbrev pub Ceiling : Float → ℕ → Type 0
-Ceiling z t = (t ≤ 131072) × (lt (of_int binary32 (pos t)) z ≡ true → t + 1 ≡ ceil (num z) (den z)) × (lt (of_int binary32 (pos t)) z ≡ false → t ≡ ceil (num z) (den z))
+-- t is the whole part of z, and z rounds up to what x rounds up to
+pub record Ceiling (x z : Float) (t : ℕ) : Type 0 where
+  pub small : t ≤ 131072
+  pub below : lt (of_int binary32 (pos t)) z ≡ true → t + 1 ≡ whole ceil 131072 x
+  pub even : lt (of_int binary32 (pos t)) z ≡ false → t ≡ whole ceil 131072 x
 
-pub ceiling : (z : Float) (t : ℕ) → HasValue z false (num z) (den z) → num z ≤ 131072 * den z → t ≡ floor (num z) (den z) → Ceiling z t
+pub ceiling_cut : {x z y : Float} {t : ℕ} → z ≡ above0 x → y ≡ upto (top 17) z → t ≡ floor (num y) (den y) → Ceiling x y t
 unfolding of_int
-ceiling z t v l is =
-    let small : num z / den z ≤ 131072 = floor_below 131072 (num z) (den z) (den_pos z) l in
-    let b = beside (round binary32 false t 1) z t (round_whole binary32 false t (omega arith)) v in (
-      omega arith,
-      (λ p. omega (arith, ceil_more (num z) (den z) (den_pos z) (subst (λ (k : ℕ). k * den z < num z) is (b.0 p)))),
-      (λ p. omega (arith, ceil_same (num z) (den z) (den_pos z) (subst (λ (k : ℕ). num z ≤ k * den z) is (b.1 p)))),
-    )
+ceiling_cut {x = x} {z = z} {y = y} {t = t} p q part =
+    let i : Index ceil x y = ceil_cut p q in
+    let P = den_pos y in
+    let small : num y / den y ≤ 131072 = floor_below 131072 (num y) (den y) P i.bounded in
+    let b = beside (round binary32 false t 1) y t (round_whole binary32 false t (omega arith)) i.value in
+    record {
+      small = omega arith;
+      below = λ h. omega (arith, i.is, ceil_more (num y) (den y) P (subst (λ (k : ℕ). k * den y < num y) part (b.0 h)));
+      even = λ h. omega (arith, i.is, ceil_same (num y) (den y) P (subst (λ (k : ℕ). num y ≤ k * den y) part (b.1 h)));
+    }

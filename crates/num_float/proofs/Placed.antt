@@ -160,10 +160,7 @@ coarse_itself y t = coarse y 0 (num y) (den y) t (den_pos y) (ap (λ (x : ℕ). 
 pub widens : (y : Float) (a c : ℕ) → T (fits binary32 y) → HasValue y false a c → T (fits binary64 y && not (is_nan y))
 widens y a c t v = and_i (fits binary64 y) (not (is_nan y)) (fits_widens y t) (number y a c v)
 
--- what `whole_part` asks, and what `nearest` asks
-abbrev pub Low : Float → Type 0
-Low y = HasValue y false (num y) (den y) × (num y ≤ 131072 * den y)
-
+-- what `nearest` asks, and `whole_part` of any `f32`
 abbrev pub LowCoarse : Float → Type 0
 LowCoarse y = HasValue y false (num y) (den y) × ((num y ≤ 131072 * den y) × Coarse (num y) (den y))
 

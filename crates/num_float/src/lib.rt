@@ -36,7 +36,7 @@ pub fn is_finite(x: f32) -> bool
     x.is_finite()
 }
 
-// Whether a is at or before b in total_cmp's order. Two values that are equal differ at most in a zero's sign.
+// Whether a is at or before b in total_cmp's order; std's total_cmp asks that neither is a NaN. Two values that are equal differ at most in a zero's sign.
 #[tactic(auto, using(crate::proofs::Values::equal_left, crate::proofs::Values::equal_right, crate::proofs::Values::sign_same))]
 pub fn le_total(a: f32, b: f32) -> bool
     ensures { result ≡ total_le a b }

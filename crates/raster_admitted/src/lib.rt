@@ -13,15 +13,15 @@ use combiner_inputs::{AlphaIn, CycleSel};
 use raster_vertex::{Triangle, Vertex};
 use state::Rgba;
 
-// The checks of a triangle by their numbers, in the Rust's order.
+// The checks of a triangle, 1 to 6 in the Rust's order.
 #[derive(Clone, Copy, Debug, PartialEq, Eq)]
 pub enum Check {
-    Missing = 1, // a vertex
-    OutOfRange = 2,
-    ShadesDiffer = 3, // the alphas of the shades
-    NotFinite = 4,
-    NoColor = 5,
-    AlphasDiffer = 6, // of the combined colours
+    Missing, // a vertex
+    OutOfRange,
+    ShadesDiffer, // the alphas of the shades
+    NotFinite,
+    NoColor,
+    AlphasDiffer, // of the combined colours
 }
 
 // The vertex that an index names: its presence flag is 1 and its six floats are there.
@@ -67,39 +67,39 @@ fn alpha_differs(alpha: f32, color: Option<Rgba>) -> bool
 }
 
 // Check 2.
-pub fn out_of_range(t: Triangle) -> bool
-    ensures { result ≡ any (λ v. not (in_range v)) t.a t.b t.c }
+pub fn out_of_range(triangle: Triangle) -> bool
+    ensures { result ≡ any (λ v. not (in_range v)) triangle.a triangle.b triangle.c }
 {
-    t.any(|v| !v.in_range())
+    triangle.any(|v| !v.in_range())
 }
 
 // Check 3, where an alpha selector is Shade. A NaN differs from itself.
-fn shades_differ(t: Triangle) -> bool
-    ensures { result ≡ any (λ v. ne v.a t.a.a) t.a t.b t.c }
+fn shades_differ(triangle: Triangle) -> bool
+    ensures { result ≡ any (λ v. ne v.a triangle.a.a) triangle.a triangle.b triangle.c }
 {
-    t.any(|v| v.a != t.a.a)
+    triangle.any(|v| v.a != triangle.a.a)
 }
 
 // Check 4.
-fn not_finite(t: Triangle) -> bool
-    ensures { result ≡ any (λ v. not (finite_color v)) t.a t.b t.c }
+fn not_finite(triangle: Triangle) -> bool
+    ensures { result ≡ any (λ v. not (finite_color v)) triangle.a triangle.b triangle.c }
 {
-    t.any(|v| !v.has_finite_color())
+    triangle.any(|v| !v.has_finite_color())
 }
 
 // Check 6.
-fn alphas_differ(combiner: Combiner, alpha: f32, t: Triangle) -> bool
-    ensures { result ≡ any (λ v. alpha_differs alpha (color_of combiner (colour_of v))) t.a t.b t.c }
+fn alphas_differ(combiner: Combiner, alpha: f32, triangle: Triangle) -> bool
+    ensures { result ≡ any (λ v. alpha_differs alpha (color_of combiner (colour_of v))) triangle.a triangle.b triangle.c }
 {
-    t.any(|v| alpha_differs(alpha, combiner.color(v.color())))
+    triangle.any(|v| alpha_differs(alpha, combiner.color(v.color())))
 }
 
 // Checks 5 and 6.
-fn alpha_check(combiner: Combiner, t: Triangle) -> Result<(), Check>
-    ensures { check_number result ≡ alpha_check combiner t.a t.b t.c (color_of combiner (colour_of t.a)) }
+fn alpha_check(combiner: Combiner, triangle: Triangle) -> Result<(), Check>
+    ensures { check_number result ≡ alpha_check combiner triangle.a triangle.b triangle.c (color_of combiner (colour_of triangle.a)) }
 {
-    let color = combiner.color(t.a.color()).ok_or(Check::NoColor)?;
-    if alphas_differ(combiner, color.a, t) {
+    let color = combiner.color(triangle.a.color()).ok_or(Check::NoColor)?;
+    if alphas_differ(combiner, color.a, triangle) {
         return Err(Check::AlphasDiffer);
     }
     Ok(())
@@ -107,17 +107,17 @@ fn alpha_check(combiner: Combiner, t: Triangle) -> Result<(), Check>
 
 // The first of checks 2 to 6 of a triangle that fails, in the Rust's order.
 #[tactic(auto, unfolding(crate::specs::Check::check_of))]
-pub fn checks(combiner: Combiner, t: Triangle) -> Result<(), Check>
-    ensures { check_number result ≡ check_of combiner t.a t.b t.c }
+pub fn checks(combiner: Combiner, triangle: Triangle) -> Result<(), Check>
+    ensures { check_number result ≡ check_of combiner triangle.a triangle.b triangle.c }
 {
-    if out_of_range(t) {
+    if out_of_range(triangle) {
         return Err(Check::OutOfRange);
     }
-    if reads_shade(combiner.selectors) && shades_differ(t) {
+    if reads_shade(combiner.selectors) && shades_differ(triangle) {
         return Err(Check::ShadesDiffer);
     }
-    if not_finite(t) {
+    if not_finite(triangle) {
         return Err(Check::NotFinite);
     }
-    alpha_check(combiner, t)
+    alpha_check(combiner, triangle)
 }

@@ -90,7 +90,7 @@ pub fn four(e: Edge, n: u32) -> [i64; 4]
     ]
 }
 
-// The smaller of two if `low`, else the larger.
+// The smaller of two if `low`, else the larger. A flag for the two ends in this and the next functions, so that one law serves both.
 fn outer(a: i64, b: i64, low: bool) -> i64
     ensures { result ≡ outer_of low a b }
 {

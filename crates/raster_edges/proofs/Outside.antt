@@ -9,6 +9,7 @@ use lib.ListN.{get_or}
 use lib.IntN.{ℤ, pos, negsuc, ◌+ℤ◌, ◌-ℤ◌}
 use lib.Signed.{shr_z, lt_z, le_z}
 use borrow.Author.Tests.{lt-ltb, le-ltb, le-leb, lt-leb, ltb-true, leb-true, leb-false}
+use Rattle.std.proofs.Math.Bool.{and-false}
 use Rattle.raster_edges.specs.declared.Edges.{Edges}
 use Rattle.raster_edges.specs.declared.Tri.{Tri}
 use Rattle.raster_edges.specs.Span.{line_of, edges_of, pick_span, no_span}
@@ -61,10 +62,6 @@ module _ (m : ℕ) (p : 0 < m) where
 abbrev beyond : Bool → ℤ → ℕ → Bool
 beyond true z x = lt_z (pos x) (shr_z z 8)
 beyond false z x = lt_z (shr_z z 8) (pos x)
-
-and_false : (b : Bool) → b && false ≡ false
-and_false true = refl
-and_false false = refl
 
 beyond_mono : (low : Bool) (a b : ℤ) (x : ℕ) → le_z a b ≡ true → beyond low (pick_z true low a b) x ≡ true → beyond low (pick_z false low a b) x ≡ true
 beyond_mono true (pos a) (pos b) x h t = lt-ltb x (b / 8) (omega (arith, leb-true a b h, ltb-true x (a / 8) t))
@@ -122,7 +119,7 @@ row_beyond low e x s = by low (lt_z l r) refl
         rw (lt_not_le l n (cell_before 8 (omega arith) l x n h (omega arith)), lt_not_le l (n + 4) (cell_before 8 (omega arith) l x (n + 4) h (omega arith)))
     by false true e h =
         let n = sample_at x s in
-        rw (ended r n (cell_after 8 (omega arith) (r -ℤ pos 1) x n h (omega arith)), ended r (n + 4) (cell_after 8 (omega arith) (r -ℤ pos 1) x (n + 4) h (omega arith)), and_false (le_z l (pos n)), and_false (le_z l (pos (n + 4))))
+        rw (ended r n (cell_after 8 (omega arith) (r -ℤ pos 1) x n h (omega arith)), ended r (n + 4) (cell_after 8 (omega arith) (r -ℤ pos 1) x (n + 4) h (omega arith)), and-false (le_z l (pos n)), and-false (le_z l (pos (n + 4))))
 
 mask_beyond : (low : Bool) (e : Edges) (x : ℕ) → beyond low (outermost_of low e.left e.right) x ≡ true → mask_of e x ≡ 0
 unfolding outermost_of mask_of

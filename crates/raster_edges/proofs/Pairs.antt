@@ -6,7 +6,7 @@ use native.Mathlib.Omega.{arith}
 use lib.Bits.{bit_or}
 use lib.ListN.{get_or}
 use lib.IntN.{ℤ, pos}
-use Rattle.raster_edge.proofs.Bits.{join, or_next}
+use Rattle.raster_edge.proofs.Bits.{or_next}
 use Rattle.raster_edges.specs.declared.Edges.{Edges}
 use Rattle.raster_edges.specs.Sample.{inside, bit_of, two_of, pair_of, sample_at}
 
@@ -22,12 +22,7 @@ pub pair_lt : (e : Edges) (x s : ℕ) → pair_of e x s < 4
 unfolding pair_of
 pair_lt e x s = two_lt (get_or e.left s (pos 0)) (get_or e.right s (pos 0)) (sample_at x s)
 
--- ---- put together by shifts, as code does it: two bits, and four pairs
-pub two_bits : (a b : Bool) → bit_or ((bit_of a * 2) % 2 ^ 8) (bit_of b) ≡ 2 * bit_of a + bit_of b
-two_bits a b =
-    let h : bit_of a < 2 = bit_lt a in
-    join 8 1 (bit_of a) (bit_of b) (omega arith) (bit_lt b) ∙ omega arith
-
+-- ---- four pairs, put together by shifts, as code does it
 abbrev pub bits : ℕ → ℕ → ℕ → ℕ → ℕ
 bits a b c d = bit_or (bit_or (bit_or ((a * 64) % 2 ^ 8) ((b * 16) % 2 ^ 8)) ((c * 4) % 2 ^ 8)) d
 

@@ -1,6 +1,6 @@
 #![tactic(auto)]
 
-// A part of a row or of the rows: from start up to end, end left out.
+// A part of a row or of the rows: from start up to end, end left out. std's Range is an iterator, and so not Copy.
 #[derive(Clone, Copy)]
 pub struct Range {
     pub start: u32,

@@ -7,6 +7,7 @@ use mathlib.Core.Bool.{Bool, true, false, cond, ◌&&◌}
 use borrow.Author.Tests.{lt-ltb, le-ltb, lt-leb, le-leb, ltb-true, ltb-false, leb-true, leb-false}
 use lib.Dec.{ltb, leb}
 use lib.IntN.{pos, ◌+ℤ◌}
+use Rattle.std.proofs.Math.Bool.{and-false, and-true}
 use Rattle.raster_edge.specs.declared.Span.{Span}
 use Rattle.raster_edge.specs.Edge.{sticky, quantized, edge_at, cross_of}
 use Rattle.raster_edge.specs.Span.{span_of}
@@ -17,10 +18,6 @@ use Rattle.raster_edges.specs.Sample.{bit_of, inside, sample_at, two_of, pair_of
 use Rattle.raster_rectangle.specs.declared.Sides.{Sides}
 use Rattle.raster_rectangle.specs.Rectangle.{quarters, sample_x, sample_y, inside_of, sample_bit, row_bits, rect_mask}
 use Rattle.raster_rectangle.specs.Outline.{Before, From, upright_of, Outlines}
-
-and_false : (b : Bool) → b && false ≡ false
-and_false true = refl
-and_false false = refl
 
 -- ---- an upright edge
 upright_tame : (q : ℕ) → q ≤ 4096 → Tame (upright_of q)
@@ -44,10 +41,6 @@ upright_cross q n = ap quantized still ∙ (λ i. pos (even i) +ℤ sticky (none
 abbrev pub box_of : ℕ → ℕ → ℕ → ℕ → Tri
 box_of l t r b = record { major = upright_of l; upper = upright_of r; lower = upright_of r; top = pos t; mid = pos b; end = pos b; rightward = true }
 
-and_true : (b : Bool) → b && true ≡ b
-and_true true = refl
-and_true false = refl
-
 double_le : (a b : ℕ) → leb (a * 2) (b * 2) ≡ leb a b
 double_le a b = by (leb a b) refl
   where
@@ -69,7 +62,7 @@ module _ (l t r b n p : ℕ) where
 
   nothing : in_span no_span ≡ false
   unfolding in_span
-  nothing = (λ i. leb 0 (p * 2) && le-ltb (p * 2) 0 (omega arith) i) ∙ and_false (leb 0 (p * 2))
+  nothing = (λ i. leb 0 (p * 2) && le-ltb (p * 2) 0 (omega arith) i) ∙ and-false (leb 0 (p * 2))
 
   something : in_span (span_of (upright_of l) (upright_of r) true n) ≡ leb l p && ltb p r
   unfolding in_span span_of
@@ -85,13 +78,13 @@ module _ (l t r b n p : ℕ) where
 
       by : (u v : Bool) → ltb n t ≡ u → leb b n ≡ v
           → in_span (pick_span u no_span (pick_span v no_span (pick_span (ltb n b) (span_of (upright_of l) (upright_of r) true n) (span_of (upright_of l) (upright_of r) true n)))) ≡ (leb l p && ltb p r) && (leb t n && ltb n b)
-      by true v e f = nothing ∙ sym ((λ i. (leb l p && ltb p r) && (lt-leb t n (ltb-true n t e) i && ltb n b)) ∙ and_false (leb l p && ltb p r))
+      by true v e f = nothing ∙ sym ((λ i. (leb l p && ltb p r) && (lt-leb t n (ltb-true n t e) i && ltb n b)) ∙ and-false (leb l p && ltb p r))
       by false true e f =
           nothing
-          ∙ sym ((λ i. (leb l p && ltb p r) && (le-leb t n (ltb-false n t e) i && le-ltb n b (leb-true b n f) i)) ∙ and_false (leb l p && ltb p r))
+          ∙ sym ((λ i. (leb l p && ltb p r) && (le-leb t n (ltb-false n t e) i && le-ltb n b (leb-true b n f) i)) ∙ and-false (leb l p && ltb p r))
       by false false e f =
           either (ltb n b)
-          ∙ sym ((λ i. (leb l p && ltb p r) && (le-leb t n (ltb-false n t e) i && lt-ltb n b (leb-false b n f) i)) ∙ and_true (leb l p && ltb p r))
+          ∙ sym ((λ i. (leb l p && ltb p r) && (le-leb t n (ltb-false n t e) i && lt-ltb n b (leb-false b n f) i)) ∙ and-true (leb l p && ltb p r))
 
 weight : (b : Bool) (w : ℕ) → cond b w 0 ≡ w * bit_of b
 weight true w = omega arith

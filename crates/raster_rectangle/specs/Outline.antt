@@ -1,5 +1,5 @@
 -- Inner vocabulary. A rectangle by edges, as a triangle has them: upright edges at the first quarters that do not lie before its sides. Definitions only.
-use Rattle.std.specs.Prelude.{ℕ, ◌*◌, ◌≤◌, ◌<◌, ◌≡◌, pos, Float, if◌then◌else◌, nat_lt, nat_le}
+use Rattle.std.specs.Prelude.{ℕ, ◌*◌, ◌≤◌, ◌<◌, ◌≡◌, pos, Float, nat_lt, nat_le}
 use Rattle.std.specs.Float.Ieee.{le, lt}
 use Rattle.raster_edge.specs.declared.Edge.{Edge}
 use Rattle.raster_edges.specs.declared.Tri.{Tri}

@@ -14,7 +14,7 @@ use Rattle.num_float.specs.Whole.{quarter_of}
 use Rattle.raster_vertex.specs.declared.Vertex.{Vertex}
 use Rattle.raster_vertex.specs.Range.{within, in_range_x, in_range_y, in_range}
 use Rattle.raster_vertex.specs.Sorted.{vertex_at, at_or_before, insert, sorted}
-use Rattle.num_float.proofs.Tests.{both_left, both_right}
+use Rattle.std.proofs.lemmas.Bool.{and_parts}
 use Rattle.raster_vertex.proofs.Ranked.{total_or}
 use Rattle.raster_vertex.proofs.Quarters.{quarter_mono}
 
@@ -123,8 +123,8 @@ InRange v = in_range v ≡ true
 
 placed : (v : Vertex) → InRange v → Placed v
 placed v h = (
-  between true 1 (pos 10) false 4095 (negsuc 1) v.x (both_left (in_range_x v.x) (in_range_y v.y) h),
-  between true 1 (pos 11) false 8191 (negsuc 1) v.y (both_right (in_range_x v.x) (in_range_y v.y) h),
+  between true 1 (pos 10) false 4095 (negsuc 1) v.x (and_parts (in_range_x v.x) (in_range_y v.y) h).0,
+  between true 1 (pos 11) false 8191 (negsuc 1) v.y (and_parts (in_range_x v.x) (in_range_y v.y) h).1,
 )
 
 each_placed : (vs : List Vertex) → Each InRange vs → Each Placed vs
@@ -137,7 +137,7 @@ unfolding at_or_before
 sorted_y vs rs k h =
     let a = vertex_at (sorted vs) k in
     let b = vertex_at (sorted vs) (suc k) in
-    both_left (total_le a.y b.y) _ (order_at (sorted vs) (sorted_order vs (each_placed vs rs)) k (subst (λ (n : ℕ). suc k < n) (sym (sorted_length vs)) h))
+    (and_parts (total_le a.y b.y) _ (order_at (sorted vs) (sorted_order vs (each_placed vs rs)) k (subst (λ (n : ℕ). suc k < n) (sym (sorted_length vs)) h))).0
 
 -- .. and in quarter units.
 pub sorted_quarters : (vs : List Vertex) → Each InRange vs → (k : ℕ) → suc k < length vs → quarter_of (vertex_at (sorted vs) k).y ≤ℤ quarter_of (vertex_at (sorted vs) (suc k)).y

@@ -13,7 +13,7 @@ use lib.Ieee.Fits.{down_pos}
 use lib.Ieee.Nearest.{div_mono}
 use Rattle.num_float.specs.Color.{total_le}
 use Rattle.num_float.specs.Whole.{near, quarter_of}
-use Rattle.num_float.proofs.Tests.{both_left, both_right}
+use Rattle.std.proofs.lemmas.Bool.{and_parts}
 use Rattle.num_float.proofs.Cut.{near_halves}
 use Rattle.raster_vertex.specs.declared.Vertex.{Vertex}
 use Rattle.raster_vertex.specs.Range.{within, in_range_x, in_range_y, in_range}
@@ -97,17 +97,17 @@ within_size k h nan b w = absurd (false≢true w)
 within_size k h (inf true) b w = absurd (false≢true w)
 within_size k h (inf false) b w = absurd (false≢true w)
 within_size k h (fin false m e) b w =
-    let r : m * up e * 4 ≤ h * 1 * down e = le_rank false m e h (negsuc 1) (both_right (le (fin true 1 (pos k)) (fin false m e)) (le (fin false m e) (fin false h (negsuc 1))) w) in
+    let r : m * up e * 4 ≤ h * 1 * down e = le_rank false m e h (negsuc 1) (and_parts (le (fin true 1 (pos k)) (fin false m e)) (le (fin false m e) (fin false h (negsuc 1))) w).1 in
     let n : near (m * up e * 4) (down e) ≤ h = near_one (m * up e * 4) (down e) h (down_pos e) (omega (arith, mul-one h)) in
     omega arith
 within_size k h (fin true m e) b w =
-    let r : m * up e * 1 ≤ 1 * 2 ^ k * down e = le_rank true 1 (pos k) m e (both_left (le (fin true 1 (pos k)) (fin true m e)) (le (fin true m e) (fin false h (negsuc 1))) w) in
+    let r : m * up e * 1 ≤ 1 * 2 ^ k * down e = le_rank true 1 (pos k) m e (and_parts (le (fin true 1 (pos k)) (fin true m e)) (le (fin true m e) (fin false h (negsuc 1))) w).0 in
     let n : near (m * up e * 4) (down e) ≤ 2 ^ k * 4 = near_one (m * up e * 4) (down e) (2 ^ k * 4) (down_pos e) (omega (arith, mul-one (m * up e), one-mul (2 ^ k), mul_right_comm (2 ^ k) 4 (down e))) in
     omega (arith, signed_size true (size m e))
 
 -- The coordinates of a vertex in range, in quarter units, are at most 4096 and 8192 either way.
 pub quarter_x : (v : Vertex) → in_range v ≡ true → nat_abs (quarter_of v.x) ≤ 4096
-quarter_x v h = within_size 10 4095 v.x (omega arith) (both_left (in_range_x v.x) (in_range_y v.y) h)
+quarter_x v h = within_size 10 4095 v.x (omega arith) (and_parts (in_range_x v.x) (in_range_y v.y) h).0
 
 pub quarter_y : (v : Vertex) → in_range v ≡ true → nat_abs (quarter_of v.y) ≤ 8192
-quarter_y v h = within_size 11 8191 v.y (omega arith) (both_right (in_range_x v.x) (in_range_y v.y) h)
+quarter_y v h = within_size 11 8191 v.y (omega arith) (and_parts (in_range_x v.x) (in_range_y v.y) h).1

@@ -9,11 +9,7 @@ use lib.IntN.{ℤ}
 use lib.Dec.{ltb, eqb}
 use lib.Ieee.{Float, nan, inf, fin, up, down, below, level, lt, eq, le}
 use Rattle.num_float.specs.Color.{is_finite, total_le}
-use Rattle.num_float.proofs.Tests.{both_left, both_right}
-
-or_first : (p q : Bool) → (p || q) ≡ false → p ≡ false
-or_first true q h = h
-or_first false q h = refl
+use Rattle.std.proofs.lemmas.Bool.{and_parts, or_parts}
 
 -- a is below b, or else e says that they are equal
 at_most : (a b : ℕ) (p e : Bool) → ltb a b ≡ p → (e ≡ true → a ≡ b) → (p || e) ≡ true → a ≤ b
@@ -35,11 +31,11 @@ abbrev ranked : Bool → ℕ → Bool → ℕ → Bool
 ranked s a t b = below s a t b || (level s a t b && (s || not t))
 
 equal : (a b : ℕ) (q r : Bool) → (eqb a b && q && r) ≡ true → a ≡ b
-equal a b q r h = eqb-true a b (both_left (eqb a b) q (both_left (eqb a b && q) r h))
+equal a b q r h = eqb-true a b (and_parts (eqb a b) q (and_parts (eqb a b && q) r h).0).0
 
 rank : (s : Bool) (a : ℕ) (t : Bool) (b : ℕ) → ranked s a t b ≡ true → Rank s a t b
 rank false a false b h = at_most a b (ltb a b) (eqb a b && true && true) refl (equal a b true true) h
-rank false a true b h = absurd (false≢true (both_right (level false a true b) false h))
+rank false a true b h = absurd (false≢true (and_parts (level false a true b) false h).1)
 rank true a false b h = tt
 rank true a true b h = at_most b a (ltb b a) (eqb a b && true && true) refl (λ e. sym (equal a b true true e)) h
 
@@ -49,11 +45,11 @@ opposite a b = from_most 0 (a + b) (ltb 0 (a + b)) (eqb a b && eqb a 0 && true) 
 
 other_way : (s : Bool) (a : ℕ) (t : Bool) (b : ℕ) → ranked s a t b ≡ false → ranked t b s a ≡ true
 other_way false a false b h =
-    from_most b a (ltb b a) (eqb b a && true && true) refl (λ e. simp (eq-eqb b a e)) (ltb-false a b (or_first (ltb a b) _ h))
+    from_most b a (ltb b a) (eqb b a && true && true) refl (λ e. simp (eq-eqb b a e)) (ltb-false a b (or_parts (ltb a b) _ h).0)
 other_way false a true b h = opposite b a
 other_way true a false b h = absurd (true≢false (sym (opposite a b) ∙ h))
 other_way true a true b h =
-    from_most a b (ltb a b) (eqb b a && true && true) refl (λ e. simp (eq-eqb b a (sym e))) (ltb-false b a (or_first (ltb b a) _ h))
+    from_most a b (ltb a b) (eqb b a && true && true) refl (λ e. simp (eq-eqb b a (sym e))) (ltb-false b a (or_parts (ltb b a) _ h).0)
 
 -- ---- on floats
 pub total_rank : (s : Bool) (m : ℕ) (e : ℤ) (t : Bool) (n : ℕ) (d : ℤ) → total_le (fin s m e) (fin t n d) ≡ true → Rank s (m * up e * down d) t (n * up d * down e)
@@ -66,11 +62,11 @@ unfolding le lt eq
 le_rank false m e n d h =
     let a = m * up e * down d in
     let b = n * up d * down e in
-    at_most a b (ltb a b) (eqb a b && true) refl (λ q. eqb-true a b (both_left (eqb a b) true q)) h
+    at_most a b (ltb a b) (eqb a b && true) refl (λ q. eqb-true a b (and_parts (eqb a b) true q).0) h
 le_rank true m e n d h =
     let a = m * up e * down d in
     let b = n * up d * down e in
-    at_most b a (ltb b a) (eqb a b && true) refl (λ q. sym (eqb-true a b (both_left (eqb a b) true q))) h
+    at_most b a (ltb b a) (eqb a b && true) refl (λ q. sym (eqb-true a b (and_parts (eqb a b) true q).0)) h
 
 -- Of two finite floats one is at or before the other.
 pub total_or : (a b : Float) → is_finite a ≡ true → is_finite b ≡ true → total_le a b ≡ false → total_le b a ≡ true

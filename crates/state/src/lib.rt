@@ -1,5 +1,6 @@
 // The state that a draw carries: the decoded render mode (hle/blender.rs) and the combiner uniform (render/mod.rs), with
-// every field of the Rust's. Few of them are looked at; all of them belong to a draw.
+// every field of the Rust's. Few of them are looked at; all of them belong to a draw. A field of the console's words (cycle_type, cvg_dst, a dither) is a
+// number, as every value of it has a meaning, which an enum would refuse.
 #![tactic(auto)]
 
 // Red, green, blue and alpha.

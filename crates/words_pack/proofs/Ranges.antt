@@ -1,11 +1,11 @@
 -- The manual's ranges follow each other without a gap from 0 to 0x3ffff, so each depth lies in exactly one of them, and that is the one that
 -- `range_of` finds. Shown for any table whose ranges are chained so; that this one is chained is computed. Assumes nothing.
-use Rattle.std.proofs.Common.{◌≡◌, ℕ, zero, suc, ◌+◌, ◌-◌, ◌*◌, ◌^◌, ◌<◌, ◌≤◌, Bool, cond, leb, List, [], ◌∷◌, length, get_or, sym, refl, ap, ◌∙◌, subst, ⊎_elim, le_of_suc-le-suc, not-suc-le-zero, div-lt_iff_lt-mul, arith, pow_pos, le-leb}
+use Rattle.std.proofs.Common.{◌≡◌, ℕ, ◌+◌, ◌-◌, ◌*◌, ◌^◌, ◌<◌, ◌≤◌, Bool, cond, leb, List, [], ◌∷◌, sym, refl, ap, ◌∙◌, subst, ⊎_elim, div-lt_iff_lt-mul, arith, pow_pos, le-leb}
 use mathlib.Core.List.Memᴰ
 use mathlib.Core.List.{Memᴰ}
 use native.Mathlib.Decide.{dec_lt}
 use borrow.Author.Tests.{lt-leb}
-use Rattle.words_pack.specs.Depth.{deepest, Range, lowest, ranges, Within, last_from, range_of, word_in, depth_word}
+use Rattle.words_pack.specs.Depth.{deepest, Range, lowest, ranges, Within, last_from, range_of}
 
 -- one past the last depth of a range
 abbrev end : Range → ℕ
@@ -60,19 +60,9 @@ some (x ∷ rs) a e d ch l h = by (λ g. some rs (end x) e d ch.1 g h) (dec_lt d
         (r.0, Memᴰ.tail r.1, r.2)
 
 -- the range of a depth is any range of the table that has it
-pub range_is : (d : ℕ) (s : Range) → Memᴰ s ranges → Within s d → range_of d ≡ s
+range_is : (d : ℕ) (s : Range) → Memᴰ s ranges → Within s d → range_of d ≡ s
 unfolding range_of
 range_is d s m w = found ranges 0 0x40000 d lowest s chained m w
-
-member : (rs : List Range) (k : ℕ) → k < length rs → Memᴰ (get_or rs k lowest) rs
-member [] k h = absurd (not-suc-le-zero h)
-member (r ∷ rs) zero h = Memᴰ.head refl
-member (r ∷ rs) (suc k) h = Memᴰ.tail (member rs k (le_of_suc-le-suc h))
-
--- the word of a depth in the range of exponent k
-pub word_at : (d k : ℕ) → k < 8 → Within (get_or ranges k lowest) d → word_in (get_or ranges k lowest) d ≡ depth_word d
-unfolding depth_word
-word_at d k h w = ap (λ (r : Range). word_in r d) (sym (range_is d (get_or ranges k lowest) (member ranges k h) w))
 
 -- Each depth of eighteen bits lies in exactly one range of the table, the one by which its word is made
 pub one_range : (d : ℕ) → d ≤ deepest

@@ -10,7 +10,8 @@ ghost use Rattle.words_pack.specs.Writer.{supported_of, pixel_bytes_of, bytes_of
 
 use state::Rgba8;
 
-// An image's format and size of a pixel, as Set Color Image numbers them, and its width in pixels.
+// An image's format and size of a pixel, as Set Color Image numbers them, and its width in pixels. Numbers and no enums: a word of the console may hold any,
+// and `supported` says which have a writer.
 #[derive(Clone, Copy)]
 pub struct ImageLayout {
     pub fmt: u8,
@@ -41,7 +42,7 @@ const MAGIC: [u8; 16] = [0, 6, 1, 7, 4, 2, 5, 3, 3, 5, 2, 4, 7, 1, 6, 0];
 
 const BAYER: [u8; 16] = [0, 4, 1, 5, 4, 0, 5, 1, 3, 7, 2, 6, 7, 3, 6, 2];
 
-// The same, four bits each, the first lowest: a run of words takes an entry without building a table for each pixel.
+// The same, four bits each, the first lowest, for a run of words.
 const MAGIC_WORD: u64 = 0x0617_4253_3524_7160;
 
 const BAYER_WORD: u64 = 0x2637_6273_1504_5140;
@@ -77,7 +78,7 @@ fn place(x: usize, y: usize) -> usize
     y % 4 * 4 + x % 4
 }
 
-// The pixel's threshold by the dither mode: 0 and 2 the magic square, 1 Bayer's, else none is rounded up.
+// The pixel's threshold by the dither mode: 0 and 2 the magic square, 1 Bayer's, else none is rounded up. These tables are read beside the console's papers.
 #[tactic(auto, unfolding(crate::specs::Dither::threshold_of))]
 pub fn threshold(rgb_dither: u8, x: usize, y: usize) -> u8
     ensures { result ≡ threshold_of rgb_dither x y }
@@ -90,7 +91,7 @@ pub fn threshold(rgb_dither: u8, x: usize, y: usize) -> u8
     }
 }
 
-// An entry of a square.
+// An entry of a square: three bits of a u64, where num_bits' `bits` takes a u32.
 #[tactic(auto, using(crate::proofs::Squares::masked))]
 fn entry(square: u64, index: usize) -> u8
     requires { index < 16 }
@@ -99,7 +100,7 @@ fn entry(square: u64, index: usize) -> u8
     ((square >> (4 * index)) & 7) as u8
 }
 
-// `threshold`, from the words.
+// `threshold`, from the words (speed): a table is built again for each pixel, the words are not.
 #[tactic(auto, using(crate::proofs::Squares::magic_entry, crate::proofs::Squares::bayer_entry), unfolding(crate::specs::Dither::threshold_of))]
 pub fn word_threshold(rgb_dither: u8, x: usize, y: usize) -> u8
     ensures { result ≡ threshold_of rgb_dither x y }
@@ -122,32 +123,21 @@ fn range_word(d: u32, exponent: u32, first: u32, shift: u32) -> u16
 }
 
 // The manual's eight ranges: each exponent with its first depth and its shift.
+#[tactic(auto, unfolding(crate::specs::Depth::depth_word, crate::specs::Depth::range_of, crate::specs::Depth::last_from))]
 fn depth_word(d: u32) -> u16
     requires { d ≤ deepest }
     ensures { result ≡ depth_word d }
 {
-    if d < 0x20000 {
-        return range_word(d, 0, 0x00000, 6);
+    match d {
+        0..0x20000 => range_word(d, 0, 0x00000, 6),
+        0x20000..0x30000 => range_word(d, 1, 0x20000, 5),
+        0x30000..0x38000 => range_word(d, 2, 0x30000, 4),
+        0x38000..0x3c000 => range_word(d, 3, 0x38000, 3),
+        0x3c000..0x3e000 => range_word(d, 4, 0x3c000, 2),
+        0x3e000..0x3f000 => range_word(d, 5, 0x3e000, 1),
+        0x3f000..0x3f800 => range_word(d, 6, 0x3f000, 0),
+        _ => range_word(d, 7, 0x3f800, 0),
     }
-    if d < 0x30000 {
-        return range_word(d, 1, 0x20000, 5);
-    }
-    if d < 0x38000 {
-        return range_word(d, 2, 0x30000, 4);
-    }
-    if d < 0x3c000 {
-        return range_word(d, 3, 0x38000, 3);
-    }
-    if d < 0x3e000 {
-        return range_word(d, 4, 0x3c000, 2);
-    }
-    if d < 0x3f000 {
-        return range_word(d, 5, 0x3e000, 1);
-    }
-    if d < 0x3f800 {
-        return range_word(d, 6, 0x3f000, 0);
-    }
-    range_word(d, 7, 0x3f800, 0)
 }
 
 // A float's depth in eighteen bits. A NaN fails both tests.

@@ -7,7 +7,7 @@ use Rattle.frame_pixel.proofs.rules.Goals as goal
 pub returns : goal.returns
 returns c =
     let a = c.args in
-    let coverage = c.next_coverage-coverage.ensures ∙ ap (rule_f5 a.mode a.source.count) c.coverage_at.ensures in
+    let coverage = c.next_coverage-coverage.ensures ∙ ap (rule_f5 a.mode a.source.count) c.known_coverage.ensures in
     let color = c.color_by_rules-color.result in
     c.assemble.ensures
     ∙ (λ i. assembled (is_some color) (unwrap_or color (rule_f4 a.bytes)) (coverage i) a.bytes.coverage)

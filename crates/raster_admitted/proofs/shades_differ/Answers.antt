@@ -7,4 +7,4 @@ use Rattle.raster_admitted.proofs.shades_differ.Goals as goal
 
 pub returns : goal.returns
 unfolding AnyOf
-returns c = c.any.ensures (λ (v : Vertex). ne v.a c.args.t.a.a) (λ v b h. search rules)
+returns c = c.any.ensures (λ (v : Vertex). ne v.a c.args.triangle.a.a) (λ v b h. search rules)
