@@ -8,14 +8,15 @@ use lib.ListN.{length, get_or, length-append, get_or-append}
 use lib.Seq.{get_or-append-add}
 use Rattle.raster_pixel.specs.Parts.{from}
 use Rattle.raster_pixel.proofs.Parts.{from_none, from_join, from_one}
-use Rattle.raster_emitted.specs.declared.slots.Window.{Window}
+use Rattle.raster_emitted.specs.declared.slots.Slots.{Slots}
+use Rattle.raster_emitted.specs.Filled.{Places, slot_at}
 use Rattle.raster_emitted.specs.Masked.{Masked, no_pixel}
-use Rattle.raster_emitted.specs.Listed.{Slots, slot_at, Ready, ListedPart}
+use Rattle.raster_emitted.specs.Listed.{Window, window_of, held, ListedPart, ListedIn}
 
+-- ---- of the slices, in a window
 module _ {v : Window} where
-  -- nothing
-  pub listed_none : {n : ℕ} {s : Slots} → n ≤ v.limit → ListedPart v [] n n s s
-  listed_none h =
+  part_none : {n : ℕ} {s : Places} → n ≤ v.limit → ListedPart v [] n n s s
+  part_none h =
       record {
         within = h;
         count = omega arith;
@@ -26,18 +27,9 @@ module _ {v : Window} where
         later = λ i l a. refl;
       }
 
-  -- the same pixels, said otherwise
-  pub listed_as : {ds es : List Masked} {n m : ℕ} {s t : Slots} → ds ≡ es → ListedPart v ds n m s t → ListedPart v es n m s t
-  listed_as {n = n} {m} {s} {t} e d = subst (λ (l : List Masked). ListedPart v l n m s t) e d
-
-  -- the slices can take what comes next
-  pub ready_now : {es : List Masked} {n m : ℕ} {s t : Slots} → Ready v n s → ListedPart v es n m s t → Ready v m t
-  ready_now r d = record { within = omega (arith, d.count); matched = d.pixels ∙ r.matched ∙ sym d.masks }
-
-  -- one part and then another
-  module _ {es fs : List Masked} {n m k : ℕ} {s t u : Slots} (d : ListedPart v es n m s t) (e : ListedPart v fs m k t u) where
-    pub listed_then : ListedPart v (es ++ fs) n k s u
-    listed_then =
+  module _ {es fs : List Masked} {n m k : ℕ} {s t u : Places} (d : ListedPart v es n m s t) (e : ListedPart v fs m k t u) where
+    part_then : ListedPart v (es ++ fs) n k s u
+    part_then =
         record {
           within = d.within;
           count = omega (arith, d.count, e.count, length-append es fs);
@@ -61,9 +53,8 @@ module _ {v : Window} where
             ∙ sym (get_or-append-add es fs (v.first + i - m) no_pixel)
             ∙ ap (λ (j : ℕ). get_or (es ++ fs) j no_pixel) past
 
-  -- past the window's end nothing is counted
-  pub listed_stop : (fs : List Masked) {es : List Masked} {n m : ℕ} {s t : Slots} → m ≡ v.limit → ListedPart v es n m s t → ListedPart v (es ++ fs) n m s t
-  listed_stop fs {es} {n} h d =
+  part_stop : (fs : List Masked) {es : List Masked} {n m : ℕ} {s t : Places} → m ≡ v.limit → ListedPart v es n m s t → ListedPart v (es ++ fs) n m s t
+  part_stop fs {es} {n} h d =
       record {
         within = d.within;
         count = omega (arith, d.count, length-append es fs);
@@ -74,23 +65,49 @@ module _ {v : Window} where
         later = d.later;
       }
 
--- ---- a loop over the parts from a on: those up to i are listed
-module _ {v : Window} (c : ℕ → List Masked) (a : ℕ) {n : ℕ} {s : Slots} where
-  pub listing_start : n ≤ v.limit → ListedPart v (from c a a) n n s s
-  listing_start h = listed_as (sym (from_none c a a (omega arith))) (listed_none h)
+-- ---- of slots
+-- nothing
+pub listed_none : (s : Slots) → ListedIn [] s s
+listed_none s = record { first = refl; limit = refl; pixels = refl; masks = refl; part = part_none s.within }
 
-  module _ {i m : ℕ} {t : Slots} (h : a ≤ i) (l : ListedPart v (from c a i) n m s t) where
+-- the same pixels, said otherwise
+pub listed_as : {ds es : List Masked} {s t : Slots} → ds ≡ es → ListedIn ds s t → ListedIn es s t
+listed_as {s = s} {t} e d = subst (λ (l : List Masked). ListedIn l s t) e d
+
+-- one part and then another
+pub listed_then : {es fs : List Masked} {s t u : Slots} → ListedIn es s t → ListedIn fs t u → ListedIn (es ++ fs) s u
+listed_then {es} {fs} {s} {t} {u} d e =
+    let same : window_of t ≡ window_of s = λ i. record { first = d.first i; limit = d.limit i } in
+    record {
+      first = e.first ∙ d.first;
+      limit = e.limit ∙ d.limit;
+      pixels = e.pixels ∙ d.pixels;
+      masks = e.masks ∙ d.masks;
+      part = part_then d.part (subst (λ (v : Window). ListedPart v fs t.count u.count (held t) (held u)) same e.part);
+    }
+
+-- past the window's end nothing is counted
+pub listed_stop : (fs : List Masked) {es : List Masked} {s t : Slots} → t.count ≡ t.limit → ListedIn es s t → ListedIn (es ++ fs) s t
+listed_stop fs h d =
+    record { first = d.first; limit = d.limit; pixels = d.pixels; masks = d.masks; part = part_stop fs (h ∙ d.limit) d.part }
+
+-- ---- a loop over the parts from a on: those up to i are listed
+module _ (c : ℕ → List Masked) (a : ℕ) where
+  pub listing_start : (s : Slots) → ListedIn (from c a a) s s
+  listing_start s = listed_as (sym (from_none c a a (omega arith))) (listed_none s)
+
+  module _ {s t : Slots} {i : ℕ} (h : a ≤ i) (l : ListedIn (from c a i) s t) where
     -- the parts from i up to e
-    pub listing_by : {e k : ℕ} {u : Slots} → i ≤ e → ListedPart v (from c i e) m k t u → ListedPart v (from c a e) n k s u
+    pub listing_by : {e : ℕ} {u : Slots} → i ≤ e → ListedIn (from c i e) t u → ListedIn (from c a e) s u
     listing_by {e} o d = listed_as (from_join c a i e h o) (listed_then l d)
 
     -- part i
-    pub listing_more : {k : ℕ} {u : Slots} → ListedPart v (c i) m k t u → ListedPart v (from c a (i + 1)) n k s u
+    pub listing_more : {u : Slots} → ListedIn (c i) t u → ListedIn (from c a (i + 1)) s u
     listing_more d = listing_by (omega arith) (listed_as (sym (from_one c i)) d)
 
     -- the count has come to the window's end
-    pub listing_stop : {b : ℕ} → i ≤ b → m ≡ v.limit → ListedPart v (from c a b) n m s t
+    pub listing_stop : {b : ℕ} → i ≤ b → t.count ≡ t.limit → ListedIn (from c a b) s t
     listing_stop {b} o e = listed_as (from_join c a i b h o) (listed_stop (from c i b) e l)
 
-    pub listing_done : {b : ℕ} → b ≤ i → i ≤ b → ListedPart v (from c a b) n m s t
+    pub listing_done : {b : ℕ} → b ≤ i → i ≤ b → ListedIn (from c a b) s t
     listing_done {b} p o = let e : i ≡ b = omega arith in listed_as (ap (from c a) e) l

@@ -7,10 +7,10 @@ use native.Mathlib.Omega.{arith}
 use lib.ListN.{length, get_or, set, length-set}
 use lib.Seq.{get_or-set_same, get_or-set_other}
 use Rattle.raster_pixel.proofs.Parts.{each_length, each_at}
-use Rattle.raster_emitted.specs.declared.slots.Window.{Window}
+use Rattle.raster_emitted.specs.Filled.{Places, Filled}
 use Rattle.raster_emitted.specs.Masked.{Masked, no_pixel}
 use Rattle.raster_emitted.specs.Shapes.{run_masks}
-use Rattle.raster_emitted.specs.Listed.{Slots, slots_of, slot_at, Filled, ListedPart}
+use Rattle.raster_emitted.specs.Listed.{Window, ListedPart}
 
 -- ---- the pixels of a run
 abbrev spot : ℕ → ℕ → Masked
@@ -22,47 +22,51 @@ run_length mask p count = each_length (spot mask) p count
 pub run_at : (mask p count j : ℕ) → j < count → get_or (run_masks mask p (p + count)) j no_pixel ≡ spot mask (p + j)
 run_at mask p count j h = each_at (spot mask) no_pixel p count j h
 
--- ---- the slots of a loop
-module _ (number : ℕ → ℕ) (mask : ℕ) {before : Slots} where
-  pub filled_none : (lo : ℕ) → Filled number mask lo lo before before
-  filled_none lo =
-      record { pixels = refl; masks = refl; written = λ i p q. absurd (omega arith); below = λ i p. refl; above = λ i p. refl }
+-- ---- the numbers of a loop: those of slots lo to hi - 1 are written
+pub record Numbered (number : ℕ → ℕ) (lo hi : ℕ) (before after : List ℕ) : Type 0 where
+  pub long : length after ≡ length before
+  pub written : (i : ℕ) → lo ≤ i → i < hi → get_or after i 0 ≡ number i
+  pub below : (i : ℕ) → i < lo → get_or after i 0 ≡ get_or before i 0
+  pub above : (i : ℕ) → hi ≤ i → get_or after i 0 ≡ get_or before i 0
 
-  module _
-      {lo hi p : ℕ} {ps ms : List ℕ} (d : Filled number mask lo hi before (slots_of ps ms)) (o : lo ≤ hi) (hp : hi < length ps) (hm : hi < length ms)
-      (e : p ≡ number hi) where
-    other : (i : ℕ) → (i ≡ hi → ⊥) → slot_at (slots_of (set ps hi p) (set ms hi mask)) i ≡ slot_at (slots_of ps ms) i
-    other i n = λ j. record { pixel = get_or-set_other ps hi i p 0 n j; mask = get_or-set_other ms hi i mask 0 n j }
+module _ (number : ℕ → ℕ) {before : List ℕ} where
+  pub numbered_none : (lo : ℕ) → Numbered number lo lo before before
+  numbered_none lo = record { long = refl; written = λ i p q. absurd (omega arith); below = λ i p. refl; above = λ i p. refl }
 
-    pub filled_more : Filled number mask lo (hi + 1) before (slots_of (set ps hi p) (set ms hi mask))
-    filled_more =
+  module _ {lo hi p : ℕ} {ps : List ℕ} (d : Numbered number lo hi before ps) (o : lo ≤ hi) (h : hi < length ps) (e : p ≡ number hi) where
+    pub numbered_more : Numbered number lo (hi + 1) before (set ps hi p)
+    numbered_more =
         record {
-          pixels = length-set ps hi p ∙ d.pixels;
-          masks = length-set ms hi mask ∙ d.masks;
+          long = length-set ps hi p ∙ d.long;
           written = λ i a b. go i a b (ℕ_discrete i hi);
-          below = λ i a. other i (λ q. omega arith) ∙ d.below i a;
-          above = λ i a. other i (λ q. omega arith) ∙ d.above i (omega arith);
+          below = λ i a. get_or-set_other ps hi i p 0 (λ q. omega arith) ∙ d.below i a;
+          above = λ i a. get_or-set_other ps hi i p 0 (λ q. omega arith) ∙ d.above i (omega arith);
         }
       where
-        go : (i : ℕ) → lo ≤ i → i < hi + 1 → Dec (i ≡ hi) → slot_at (slots_of (set ps hi p) (set ms hi mask)) i ≡ spot mask (number i)
-        go i a b (yes q) =
-            subst (λ (j : ℕ). slot_at (slots_of (set ps hi p) (set ms hi mask)) j ≡ spot mask (number j)) (sym q)
-            ((λ j. record { pixel = get_or-set_same ps hi p 0 hp j; mask = get_or-set_same ms hi mask 0 hm j }) ∙ ap (spot mask) e)
-        go i a b (no n) = other i n ∙ d.written i a (omega arith)
+        go : (i : ℕ) → lo ≤ i → i < hi + 1 → Dec (i ≡ hi) → get_or (set ps hi p) i 0 ≡ number i
+        go i a b (yes q) = subst (λ (j : ℕ). get_or (set ps hi p) j 0 ≡ number j) (sym q) (get_or-set_same ps hi p 0 h ∙ e)
+        go i a b (no n) = get_or-set_other ps hi i p 0 n ∙ d.written i a (omega arith)
 
--- the slots of a run
-module _ (v : Window) (p count : ℕ) {n mask : ℕ} {before after : Slots} where
+-- the slots of a run: the first is that of the run's first pixel, or slot 0, where the run's first pixels have none
+module _ (v : Window) (p count : ℕ) {n mask : ℕ} {before after : Places} where
   pub run_listed :
-      {m lo hi : ℕ} → n ≤ v.limit → m ≡ min v.limit (n + count) → lo ≡ min (length before.masks) (n - v.first)
-      → hi ≡ min (length before.masks) (m - v.first)
-      → Filled (λ (i : ℕ). p + (v.first + i - n)) mask lo hi before after → ListedPart v (run_masks mask p (p + count)) n m before after
-  run_listed {m} {lo} {hi} h em el eh d =
+      {m lo hi passed : ℕ} → n ≤ v.limit → m ≡ min v.limit (n + count) → lo ≡ min (length before.masks) (n - v.first)
+      → hi ≡ min (length before.masks) (m - v.first) → passed ≡ v.first - n
+      → Filled (λ (i : ℕ). p + passed + (i - lo)) mask lo hi before after → ListedPart v (run_masks mask p (p + count)) n m before after
+  run_listed {m} {lo} {hi} {passed} h em el eh ep d =
       record {
         within = h;
         count = em ∙ ap (λ (k : ℕ). min v.limit (n + k)) (sym (run_length mask p count));
         pixels = d.pixels;
         masks = d.masks;
-        there = λ i l a b. d.written i (omega arith) (omega arith) ∙ sym (run_at mask p count (v.first + i - n) (omega arith));
+        there = λ i l a b.
+            let e : p + passed + (i - lo) ≡ p + (v.first + i - n) = omega arith in
+            d.written i (omega arith) (omega arith) ∙ ap (spot mask) e ∙ sym (run_at mask p count (v.first + i - n) (omega arith));
         earlier = λ i l a. d.below i (omega arith);
         later = λ i l a. d.above i (omega arith);
       }
+
+module _ (number : ℕ → ℕ) (mask : ℕ) {before : Places} where
+  pub filled_none : (lo : ℕ) → Filled number mask lo lo before before
+  filled_none lo =
+      record { pixels = refl; masks = refl; written = λ i p q. absurd (omega arith); below = λ i p. refl; above = λ i p. refl }

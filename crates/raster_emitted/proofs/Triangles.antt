@@ -1,18 +1,19 @@
 -- What a shape lists is what the definitions emit: the rows that are left out have no sample, a triangle is nothing where it is culled or has no area, and between a
 -- rectangle's edges lie its samples. Assumes nothing.
 use Prim.Native.Nat.{ℕ, ◌+◌, ◌*◌, ◌≤◌, min}
-use mathlib.Core.Path.{◌≡◌, sym, ap, ◌∙◌}
+use mathlib.Core.Path.{◌≡◌, refl, sym, ◌∙◌}
+use Rattle.std.specs.Prelude.{Option, Some, None}
 use mathlib.Core.Bool.{Bool, true, false, cond, ◌||◌}
 use mathlib.Core.List.{List, [], ◌∷◌, map}
 use native.Mathlib.Omega.{arith}
 use lib.Dec.{eqb}
-use lib.IntN.{ℤ, pos, nat_abs}
+use lib.IntN.{nat_abs}
 use Rattle.raster_range.specs.declared.Range.{Range}
 use Rattle.raster_range.specs.Kept.{Kept}
 use Rattle.raster_vertex.specs.declared.Vertex.{Vertex}
+use Rattle.raster_vertex.specs.declared.Triangle.{Triangle}
 use Rattle.raster_vertex.specs.Sorted.{sorted}
 use Rattle.raster_vertex.specs.Shade.{culled_of}
-use Rattle.raster_edges.specs.declared.Corner.{Corner}
 use Rattle.raster_edges.specs.declared.Tri.{Tri}
 use Rattle.raster_edges.specs.Bound.{no_row}
 use Rattle.raster_edges.specs.Edge.{area_of}
@@ -25,10 +26,10 @@ use Rattle.raster_pixel.specs.declared.Scissor.{Scissor}
 use Rattle.raster_pixel.specs.Area as area
 use Rattle.raster_pixel.specs.Emitted.{corner_of}
 use Rattle.raster_pixel.specs.Parts.{from}
+use Rattle.raster_pixel.specs.SetUp.{set_up_of, set_up_by}
 use Rattle.raster_pixel.proofs.Inside.{inside_area}
-use Rattle.raster_pixel.proofs.Near.{nonzero, corners_are}
 use Rattle.raster_pixel.proofs.Parts.{from_same}
-use Rattle.raster_emitted.specs.Shapes.{pixel_masks, row_masks, line_masks, shape_masks, triangle_masks, rectangle_masks}
+use Rattle.raster_emitted.specs.Shapes.{pixel_masks, row_masks, line_masks, shape_masks, triangle_masks, three_masks, rectangle_masks, set_up_masks}
 use Rattle.raster_emitted.proofs.Lines.{rows_kept}
 
 -- ---- the rows of a shape
@@ -40,29 +41,21 @@ shape_rows antialias t s w h {ar} ea kept =
     ∙ (λ i. from (line_masks antialias t w (ea i).left (ea i).right) (ea i).top (ea i).bottom)
     ∙ sym (inside_area s w h (λ (y : ℕ). row_masks antialias (edges_of t y) w y))
 
--- ---- a triangle
-module _ (antialias cull : Bool) (s : Scissor) (w h : ℕ) (a b c : Vertex) where
-  pub culled_none : culled_of cull a b c ≡ true → triangle_masks antialias cull s w h a b c ≡ []
-  unfolding triangle_masks
-  culled_none e =
-      let corners = map corner_of (sorted (a ∷ b ∷ c ∷ [])) in
-      (λ i. cond (e i || eqb (nat_abs (area_of corners)) 0) [] (shape_masks antialias (tri_of corners) s w h))
-
-  module _ {v : List Vertex} (ev : v ≡ sorted (a ∷ b ∷ c ∷ [])) {q : List Corner} (eq : q ≡ map corner_of v) {z : ℤ} (ez : z ≡ area_of q) (e : culled_of cull a b c ≡ false) where
-    pub area_none : z ≡ pos 0 → triangle_masks antialias cull s w h a b c ≡ []
-    unfolding triangle_masks
-    area_none p =
-        let corners = map corner_of (sorted (a ∷ b ∷ c ∷ [])) in
-        let zero = ap area_of (sym (corners_are a b c ev eq)) ∙ sym ez ∙ p in
-        (λ i. cond (e i || eqb (nat_abs (zero i)) 0) [] (shape_masks antialias (tri_of corners) s w h))
-
-    pub triangle-shape : (z ≡ pos 0 → ⊥) → {t : Tri} → t ≡ tri_of q → shape_masks antialias t s w h ≡ triangle_masks antialias cull s w h a b c
-    unfolding triangle_masks
-    triangle-shape n et =
-        let corners = map corner_of (sorted (a ∷ b ∷ c ∷ [])) in
-        let u = et ∙ ap tri_of (corners_are a b c ev eq) in
-        let area = sym (nonzero z n) ∙ ap (λ (x : ℤ). eqb (nat_abs x) 0) (ez ∙ ap area_of (corners_are a b c ev eq)) in
-        (λ i. shape_masks antialias (u i) s w h) ∙ (λ i. cond (sym e i || area i) [] (shape_masks antialias (tri_of corners) s w h))
+-- ---- a triangle that is set up
+pub set_up_masks-by : (antialias cull : Bool) (s : Scissor) (w h : ℕ) (t : Option Triangle)
+    → set_up_masks antialias s w h (set_up_by cull t) ≡ three_masks antialias cull s w h t
+unfolding set_up_of triangle_masks
+set_up_masks-by antialias cull s w h None = refl
+set_up_masks-by antialias cull s w h (Some t) =
+    let corners = map corner_of (sorted (t.a ∷ t.b ∷ t.c ∷ [])) in
+    go (culled_of cull t.a t.b t.c || eqb (nat_abs (area_of corners)) 0)
+  where
+    go : (b : Bool)
+        → (let o = sorted (t.a ∷ t.b ∷ t.c ∷ []) in
+        let p : Tri × List Vertex = (tri_of (map corner_of o), o) in
+        set_up_masks antialias s w h (cond b None (Some p)) ≡ cond b [] (set_up_masks antialias s w h (Some p)))
+    go true = refl
+    go false = refl
 
 -- ---- a rectangle
 pub rectangle_shape :

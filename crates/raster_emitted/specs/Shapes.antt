@@ -58,3 +58,8 @@ abbrev pub geometry_masks : Bool → Bool → Scissor → ℕ → ℕ → List F
 geometry_masks antialias cull s w h vs ps is Nothing = []
 geometry_masks antialias cull s w h vs ps is (Rectangle sides) = rectangle_masks antialias s w h sides
 geometry_masks antialias cull s w h vs ps is Triangles = triangles_masks antialias cull s w h vs ps is
+
+-- those of a triangle as it is set up
+abbrev pub set_up_masks : Bool → Scissor → ℕ → ℕ → Option (Tri × List Vertex) → List Masked
+set_up_masks antialias s w h None = []
+set_up_masks antialias s w h (Some p) = shape_masks antialias p.0 s w h

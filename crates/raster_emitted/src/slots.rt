@@ -1,13 +1,40 @@
-// The two lent slices: a run of emitted pixels goes to its slots in one step, and what lies outside them is passed by its length.
+// The slots that are asked for: a run of emitted pixels goes to its slots in one step, and what lies outside them is passed by its length.
 ghost use Rattle.std.specs.Prelude.{◌≡◌, ℕ, ◌+◌, ◌-◌, ◌<◌, ◌≤◌, min, length};
-ghost use Rattle.raster_emitted.specs.Shapes.{run_masks};
-ghost use Rattle.raster_emitted.specs.Listed.{ReadyIn, ListedIn, FilledIn};
+ghost use Rattle.raster_emitted.specs.Filled.{FilledIn};
 
-// Which pixels of a draw are asked for: pixel first + i goes to slot i. None is counted from limit on.
-#[derive(Clone, Copy)]
-pub struct Window {
+// Pixel first + i of a draw goes to slot i, and none is counted from limit on. So many pixels there were so far.
+#[derive(Drop)]
+pub struct Slots<'a> {
     pub first: u64,
     pub limit: u64,
+    pub count: u64,
+    pub pixels: &'a mut [u32],
+    pub masks: &'a mut [u8],
+    pub ghost within: { count ≤ limit },
+    pub ghost matched: { length pixels.now ≡ length masks.now },
+}
+
+impl Slots<'_> {
+    ghost use Rattle.raster_emitted.specs.Shapes.{run_masks};
+    ghost use Rattle.raster_emitted.specs.Listed.{ListedIn};
+
+    // Pixels `pixel` up to `pixel + more`, the draw's next ones, each with these samples.
+    pub fn list_run(&mut self, pixel: u32, mask: u8, more: u32)
+        requires small { pixel + more < 4294967296 }
+        ensures { ListedIn (run_masks mask pixel (pixel + more)) self.old self.new }
+    {
+        let before = self.count;
+        let slots = self.masks.len();
+        self.count = counted(self.limit, before, more);
+        let start = slots_before(self.first, before, slots);
+        let stop = slots_before(self.first, self.count, slots);
+        if start == stop {
+            return;
+        }
+        // Pixels before the first slot's are counted only.
+        let passed = self.first.saturating_sub(before) as u32;
+        fill(self.pixels, self.masks, start, stop, pixel + passed, mask);
+    }
 }
 
 // The count after `more` pixels, at most the limit.
@@ -26,32 +53,18 @@ pub fn slots_before(first: u64, n: u64, slots: usize) -> usize
     n.saturating_sub(first).min(slots as u64) as usize
 }
 
-// Pixels `pixel` up to `pixel + count`, of which the first is the draw's n-th, each with these samples.
-pub fn list_run(
-    pixels: &mut [u32],
-    masks: &mut [u8],
-    window: Window,
-    n: u64,
-    pixel: u32,
-    mask: u8,
-    count: u32,
-) -> u64
-    requires ready { ReadyIn window n pixels masks }
-    requires small { pixel + count < 4294967296 }
-    ensures { ListedIn window (run_masks mask pixel (pixel + count)) n result pixels masks }
+// Slots start up to stop: `number` and the numbers after it, and this mask. It takes the slices themselves: in a loop over a field of a &mut struct, what the field
+// holds is read again at each turn.
+fn fill(pixels: &mut [u32], masks: &mut [u8], start: usize, stop: usize, number: u32, mask: u8)
+    requires slots { (start ≤ stop) × (stop ≤ length masks.old) × (length pixels.old ≡ length masks.old) }
+    requires small { number + (stop - start) < 4294967297 }
+    ensures { FilledIn (λ (i : ℕ). number + (i - start)) mask start stop pixels masks }
 {
-    let first = window.first;
-    let end = counted(window.limit, n, count);
-    let slots = masks.len();
-    let start = slots_before(first, n, slots);
-    let stop = slots_before(first, end, slots);
     // by index: after a zip or an enumerate of iter_mut a proof knows nothing of what was written
     for i in start..stop {
-        let past = first + i as u64 - n;
-        pixels[i] = pixel + past as u32;
-        masks[i] = mask;
+        pixels[i] = number + (i - start) as u32;
     }
-    end
+    masks[start..stop].fill(mask);
 }
 
 // Zeros in the slots from `start` on.

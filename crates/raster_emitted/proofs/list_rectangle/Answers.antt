@@ -5,5 +5,5 @@ use Rattle.raster_emitted.proofs.list_rectangle.Goals as goal
 
 pub returns : goal.returns
 returns c =
-    let a = c.args in
-    listed_as (rectangle_shape a.antialias a.scissor a.width a.height a.sides c.requires.sized.width_small c.requires.sized.height_small c.outline.ensures) c.list_shape.ensures
+    let v = c.args.view in
+    listed_as (rectangle_shape c.args.antialias v.scissor v.width v.height c.args.sides v.sized.width_small v.sized.height_small c.outline.ensures) c.list_shape.ensures
