@@ -197,38 +197,38 @@ impl Combiner {
         Some(combiner)
     }
 
-    // Red, green or blue.
+    // Red, green or blue. This and the next three borrow the combiner: by value it would be copied for each channel.
     #[tactic(auto, unfolding(crate::specs::Combine::channel_at))]
-    fn rgb(self, shade: Rgba, channel: u8) -> Option<f32>
-        ensures { result ≡ channel_at self shade channel }
+    fn rgb(&self, shade: Rgba, channel: u8) -> Option<f32>
+        ensures { result ≡ channel_at self.now shade channel }
     {
         let s = self.selectors;
         mix(
-            color_input(self, s.ca, shade, channel),
-            color_input(self, s.cb, shade, channel),
-            color_input(self, s.cc, shade, channel),
-            color_input(self, s.cd, shade, channel),
+            color_input(*self, s.ca, shade, channel),
+            color_input(*self, s.cb, shade, channel),
+            color_input(*self, s.cc, shade, channel),
+            color_input(*self, s.cd, shade, channel),
         )
     }
 
     #[tactic(auto, unfolding(crate::specs::Combine::alpha_at))]
-    fn alpha(self, shade: Rgba) -> Option<f32>
-        ensures { result ≡ alpha_at self shade }
+    fn alpha(&self, shade: Rgba) -> Option<f32>
+        ensures { result ≡ alpha_at self.now shade }
     {
         let s = self.selectors;
         mix(
-            alpha_input(self, s.aa, shade),
-            alpha_input(self, s.ab, shade),
-            alpha_input(self, s.ac, shade),
-            alpha_input(self, s.ad, shade),
+            alpha_input(*self, s.aa, shade),
+            alpha_input(*self, s.ab, shade),
+            alpha_input(*self, s.ac, shade),
+            alpha_input(*self, s.ad, shade),
         )
     }
 
     // The colour for a shade.
     #[tactic(auto, unfolding(crate::specs::Combine::color_of, crate::specs::Combine::joined, crate::specs::Means::color_call))]
-    pub fn color(self, shade: Rgba) -> Option<Rgba>
-        ensures answer { color_means result ≡ color_call self shade }
-        ensures value { result ≡ color_of self shade }
+    pub fn color(&self, shade: Rgba) -> Option<Rgba>
+        ensures answer { color_means result ≡ color_call self.now shade }
+        ensures value { result ≡ color_of self.now shade }
     {
         Some(Rgba {
             r: self.rgb(shade, 0)?,
@@ -240,9 +240,9 @@ impl Combiner {
 
     // The word of a combiner that gives one constant colour, each channel of it empty or full.
     #[tactic(auto, unfolding(crate::specs::Strict::strict_of, crate::specs::Strict::word_of, crate::specs::Means::strict_call))]
-    pub fn strict_color(self) -> Option<u16>
-        ensures answer { strict_means result ≡ strict_call self }
-        ensures value { result ≡ strict_of self }
+    pub fn strict_color(&self) -> Option<u16>
+        ensures answer { strict_means result ≡ strict_call self.now }
+        ensures value { result ≡ strict_of self.now }
     {
         if is_flat(self.selectors) {
             strict_word(self.color(full_shade())?)
