@@ -16,6 +16,8 @@ use Rattle.num_float.proofs.Tests.{both_left, both_right}
 use Rattle.std.specs.Prelude.{None, Some}
 use Rattle.frame.specs.Frame.{Frame, put_pixel}
 use Rattle.frame.specs.Fits.{Fit, Accepted}
+use Rattle.frame.specs.Shown.{seen}
+use Rattle.frame.specs.declared.Frame as lent
 use Rattle.frame.specs.Checks.{size_ok, sizes_ok, lengths_ok, mark_ok, marks_ok, frame_refusal}
 
 -- ---- number 3 at one pixel: what it asks, taken apart and put together
@@ -137,3 +139,7 @@ pub put_accepted : (f : Frame) (w h p : ℕ) (x : Pixel) → mark_ok x.mark x.co
 put_accepted f w h p x t e =
     let a = accepted f w h e in
     not_refused (put_pixel f p x) w h (record { width = a.width; height = a.height; few = a.few; fit = put_fit a.fit p x t })
+
+-- so is a frame to be read
+pub seen_good : (f : lent.Frame) → frame_refusal (seen f) f.width f.height ≡ 0
+seen_good f = not_refused (seen f) f.width f.height f.accepted

@@ -2,59 +2,80 @@
 // where it is marked.
 #![tactic(auto)]
 
-ghost use Rattle.std.specs.Prelude.{◌≡◌, ◌<◌, ◌≤◌};
-ghost use Rattle.frame.specs.Frame.{pixel_at, frame_of};
-ghost use Rattle.frame.specs.Loads.{ColorKnown, Loadable};
-ghost use Rattle.words_read.specs.Read.{readable, writer_by, word_by, read_args, word_means, read_answer, Numbered};
+ghost use Rattle.std.specs.Prelude.{◌≡◌};
+ghost use Rattle.frame.specs.Frame.{frame_of};
+ghost use Rattle.frame.specs.Shown.{seen};
+ghost use Rattle.words_read.specs.Read.{writer_by, word_means, read_args, read_answer, Numbered};
+ghost use Rattle.words_read.specs.Format.{args_of};
 
+use frame::Frame;
 use refused::Refusal;
 use state::Rgba8;
 use words_pack::{Bytes2, FramebufferEncoding, ImageLayout, Writer};
 
-// A colour writer of the frame's width.
-pub fn writer(width: u32, fmt: u8, siz: u8) -> Writer
-    ensures { result ≡ writer_by width fmt siz }
-{
-    Writer {
-        layout: ImageLayout { fmt, siz, width },
-        depth: false,
+// How words are written.
+#[derive(Clone, Copy)]
+pub struct Format {
+    pub fmt: u8,
+    pub siz: u8,
+    pub rgb_dither: u8,
+    pub encoding: FramebufferEncoding,
+}
+
+impl Format {
+    // A colour writer of a frame's width.
+    pub fn writer(self, width: u32) -> Writer
+        ensures { result ≡ writer_by width self.fmt self.siz }
+    {
+        Writer {
+            layout: ImageLayout {
+                fmt: self.fmt,
+                siz: self.siz,
+                width,
+            },
+            depth: false,
+        }
     }
 }
 
-// Number 10 does not hold.
-pub fn is_readable(mark: u8, siz: u8) -> bool
-    ensures { result ≡ readable mark siz }
+// `encode`'s two bytes, without a literal, of a pixel, or the first of numbers 8 to 10 that holds. An unknown coverage is passed as 0.
+#[tactic(auto, using(frame::proofs::Fits::seen_good, crate::proofs::Reading::supported_siz), unfolding(crate::specs::Read::read_answer, crate::specs::Read::read_refusal, crate::specs::Read::word_refusal, crate::specs::Read::word_of))]
+fn read(frame: &Frame, pixel: usize, format: Format) -> Result<Bytes2, Refusal>
+    ensures answer { word_means result ≡ read_answer (args_of format pixel) frame.now.width frame.now.height (seen frame.now) }
+    ensures number { Numbered result }
 {
-    frame_pixel::color_marked(mark) && (frame_pixel::coverage_marked(mark) || siz != 2)
-}
-
-// `encode`'s two bytes, without a literal, of a pixel whose colour is known.
-fn encoded(
-    colors: &[u8],
-    coverages: &[u8],
-    marks: &[u8],
-    writer: Writer,
-    pixel: usize,
-    rgb_dither: u8,
-    encoding: FramebufferEncoding,
-) -> Bytes2
-    requires layout { (writer.layout.siz ≤ 3) × (0 < writer.layout.width) }
-    requires known { ColorKnown marks.now pixel }
-    requires there { Loadable (frame_of colors.now coverages.now marks.now) pixel }
-    ensures { result ≡ word_by writer pixel rgb_dither encoding (pixel_at (frame_of colors.now coverages.now marks.now) pixel) }
-{
-    let color = frame::load::color(colors, marks, pixel);
-    let coverage = frame::load::known_coverage(coverages, marks, pixel);
+    if frame.pixels() <= pixel {
+        return Err(Refusal::Pixel);
+    }
+    let writer = format.writer(frame.width);
+    if !words_pack::supported(writer) {
+        return Err(Refusal::Writer);
+    }
+    let color = frame.color(pixel).ok_or(Refusal::Unknown)?;
+    let coverage = frame.coverage(pixel);
+    if format.siz == 2 && coverage.is_none() {
+        return Err(Refusal::Unknown);
+    }
     let rgba = Rgba8 {
         r: color.red,
         g: color.green,
         b: color.blue,
         a: 0,
     };
-    words_pack::encode(writer, rgba, coverage, pixel, None, rgb_dither, encoding)
+    let word = words_pack::encode(
+        writer,
+        rgba,
+        coverage.unwrap_or(0),
+        pixel,
+        None,
+        format.rgb_dither,
+        format.encoding,
+    );
+    Ok(word)
 }
 
 // The word of a pixel, where its colour, and its coverage for 16 bits, is known: numbers 1 to 3 and 8 to 10.
+#[tactic(auto, using(crate::proofs::Reading::read_refused))]
 pub fn read_word(
     width: u32,
     height: u32,
@@ -70,19 +91,12 @@ pub fn read_word(
     ensures answer { word_means result ≡ read_answer (read_args pixel fmt siz rgb_dither encoding) width height (frame_of colors.now coverages.now marks.now) }
     ensures number { Numbered result }
 {
-    frame::refusal::frame_refusal(colors, coverages, marks, width, height)?;
-    if marks.len() <= pixel {
-        return Err(Refusal::Pixel);
-    }
-    let writer = writer(width, fmt, siz);
-    if !words_pack::supported(writer) {
-        return Err(Refusal::Writer);
-    }
-    if !is_readable(marks[pixel], siz) {
-        return Err(Refusal::Unknown);
-    }
-    let word = encoded(
-        colors, coverages, marks, writer, pixel, rgb_dither, encoding,
-    );
-    Ok(word)
+    let frame = Frame::new(width, height, colors, coverages, marks)?;
+    let format = Format {
+        fmt,
+        siz,
+        rgb_dither,
+        encoding,
+    };
+    read(&frame, pixel, format)
 }

@@ -1,11 +1,18 @@
 -- Laws of a list of answers: its count, in parts and from what is left of it, and that entries which hold the answers are the list's numbers and bytes.
 -- Assumes nothing.
 use Prim.Native.Nat.{ℕ, zero, suc, ◌+◌, ◌-◌, ◌*◌, ◌≤◌, ◌<◌}
-use mathlib.Core.Path.{◌≡◌, refl, ap, ap₂, ◌∙◌}
+use mathlib.Core.Bool.{Bool}
+use mathlib.Core.Path.{◌≡◌, refl, sym, ap, ap₂, ◌∙◌}
 use mathlib.Core.List.{List, [], ◌∷◌}
 use native.Mathlib.Omega.{arith}
 use lib.ListN.{length, get_or}
-use Rattle.words_read.specs.Read.{WordAnswer}
+use mir.Val.{bool_byte}
+use Rattle.std.specs.Prelude.{Result, Ok, Err, is_ok}
+use Rattle.refused.specs.declared.Refusal.{Refusal}
+use Rattle.refused.specs.Numbers.{number_of}
+use Rattle.words_pack.specs.declared.Bytes2.{Bytes2}
+use Rattle.words_read.specs.Read.{WordAnswer, word_means}
+use Rattle.words_read.proofs.Reading.{numbered}
 use Rattle.words_run.specs.Run.{answers_from, numbers_of, words_of, one_if, count_of, RunAnswer, run_by}
 use Rattle.words_run.specs.Entries.{Entries, entries_of, entry_at, Wrote}
 
@@ -13,6 +20,15 @@ use Rattle.words_run.specs.Entries.{Entries, entries_of, entry_at, Wrote}
 one_if_le : (k : ℕ) → one_if k ≤ 1
 one_if_le zero = omega arith
 one_if_le (suc k) = omega arith
+
+-- a read counts where it is a word
+pub one_none : (k : ℕ) → 1 ≤ k → one_if k ≡ 0
+one_none zero n = absurd (omega arith)
+one_none (suc k) n = refl
+
+pub counts : (r : Result Bytes2 Refusal) {b : Bool} {n : ℕ} → n ≡ bool_byte b → b ≡ is_ok r → n ≡ one_if (word_means r).number
+counts (Ok word) e f = e ∙ ap bool_byte f
+counts (Err refusal) e f = e ∙ ap bool_byte f ∙ sym (one_none (number_of refusal) (numbered refusal))
 
 module _ (answer : ℕ → WordAnswer) where
   pub count_le : (i n : ℕ) → count_of (answers_from answer i n) ≤ n

@@ -19,7 +19,7 @@ use Rattle.words_pack.proofs.Encoded.{encode_by, absent_by, color_by}
 use Rattle.frame.specs.Frame.{Frame, pixel_at}
 use Rattle.frame.specs.Checks.{frame_refusal}
 use Rattle.frame.proofs.Loads.{marked_coverage}
-use Rattle.words_read.specs.Read.{ReadArgs, WordAnswer, writer_by, writer_of, readable, bytes_of, word_by, read_answer}
+use Rattle.words_read.specs.Read.{ReadArgs, WordAnswer, writer_by, writer_of, readable, bytes_of, word_by, word_of, word_or, read_answer}
 use Rattle.words_run.specs.Entries.{word_at, answer_at, answer_in, At}
 use Rattle.words_run.specs.declared.entry.Place.{Place}
 use Rattle.words_read.proofs.Reading.{tenth, read}
@@ -97,7 +97,7 @@ module _ (w fmt p dither : ℕ) (e : FramebufferEncoding) (c : Pixel) where
 -- ---- a pixel that numbers 1 to 9 let through
 module _ (a : ReadArgs) (w h : ℕ) (f : Frame) (z : frame_refusal f w h ≡ 0) (p : a.pixel < length f.marks) (s : supported_of (writer_of a w) ≡ true) where
   pub answer_is : answer_in w a.siz a.dither a.encoding f a.pixel ≡ read_answer a w h f
-  unfolding answer_at
+  unfolding answer_at word_of
   answer_is = go (readable (get_or f.marks a.pixel 0) a.siz) refl
     where
       x : Bytes2
@@ -107,5 +107,5 @@ module _ (a : ReadArgs) (w h : ℕ) (f : Frame) (z : frame_refusal f w h ≡ 0) 
           (b : Bool) → readable (get_or f.marks a.pixel 0) a.siz ≡ b
           → ◌≡◌ {A = WordAnswer} (cond b (record { number = 0; word = x }) (record { number = 10; word = (0, 0) })) (read_answer a w h f)
       go true r =
-          read a w h f z p s r refl (word_is w a.fmt a.pixel a.dither a.encoding (pixel_at f a.pixel) a.siz s r)
+          ap (word_or 0) (word_is w a.fmt a.pixel a.dither a.encoding (pixel_at f a.pixel) a.siz s r) ∙ read a w h f z p s r
       go false r = tenth a w h f z p s r

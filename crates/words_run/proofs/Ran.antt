@@ -1,5 +1,5 @@
 -- A run from its parts: what each part wrote is the single answers of its pixels, and the parts together are the run. Assumes nothing.
-use Prim.Native.Nat.{ℕ, zero, suc, ◌+◌, ◌-◌, ◌*◌, ◌≤◌, ◌<◌, min}
+use Prim.Native.Nat.{ℕ, ◌+◌, ◌-◌, ◌*◌, ◌≤◌, ◌<◌, min}
 use mathlib.Core.Path.{◌≡◌, refl, sym, ap, subst, ◌∙◌}
 use mathlib.Core.Bool.{true, false, cond}
 use mathlib.Core.List.{List}
@@ -8,17 +8,15 @@ use borrow.Author.Tests.{eq-eqb, ne_eqb}
 use lib.ListN.{length}
 use Rattle.words_pack.specs.Writer.{supported_of}
 use Rattle.frame.specs.Frame.{Frame}
-use Rattle.frame.specs.Fits.{Fit}
 use Rattle.frame.specs.Checks.{frame_refusal}
-use Rattle.frame.proofs.Fits.{accepted}
 use Rattle.std.specs.Prelude.{Ok, Err}
 use Rattle.refused.specs.declared.Refusal.TheVariants as refusal
 use Rattle.words_read.specs.Read.{ReadArgs, WordAnswer, writer_of, read_answer}
 use Rattle.words_run.specs.Run.{read_at, answers_from, one_if, count_of, run_means, run_by, run_answer}
-use Rattle.words_run.specs.Entries.{Entries, entries_of, Matched, Wrote, refused_by, answer_in}
+use Rattle.words_run.specs.Entries.{Entries, entries_of, Wrote, refused_by, answer_in}
 use Rattle.words_read.proofs.Reading.{read_refused, eighth, ninth}
 use Rattle.words_run.proofs.Entries.{wrote_as, wrote_both}
-use Rattle.words_run.proofs.Answers.{count_none, count_both, answers_same, run_is}
+use Rattle.words_run.proofs.Answers.{one_none, count_none, count_both, answers_same, run_is}
 use Rattle.words_run.proofs.Columns.{answer_is}
 
 module _ (a : ReadArgs) (w h : ℕ) (f : Frame) where
@@ -33,10 +31,6 @@ module _ (a : ReadArgs) (w h : ℕ) (f : Frame) where
     count_none (λ (i : ℕ). read_answer (read_at a i) w h f) lo (hi - lo)
         (λ j u v. ap (λ (x : WordAnswer). one_if x.number) (sym (e j u (omega arith))) ∙ z),
   )
-
-  one_none : (k : ℕ) → 1 ≤ k → one_if k ≡ 0
-  one_none zero n = absurd (omega arith)
-  one_none (suc k) n = refl
 
   -- from 0
   none_at_zero : (n : ℕ) (answer : ℕ → WordAnswer) → count_of (answers_from answer 0 (n - 0)) ≡ 0 → 0 ≡ count_of (answers_from answer 0 n)
@@ -64,15 +58,6 @@ module _ (a : ReadArgs) (w h : ℕ) (f : Frame) where
           (answers_same (λ (i : ℕ). answer_in w a.siz a.dither a.encoding f (a.pixel + i)) (λ (i : ℕ). read_answer (read_at a i) w h f) 0 count
           (λ i u v. answer_is (read_at a i) w h f z (omega (arith, there (omega arith))) q)),
     )
-
-    -- what the loop along them needs
-    pub readable_there :
-        {n : ℕ} {s : Entries} → count ≤ n → Matched n s
-        → ((0 < w) × (0 < count → a.pixel + count ≤ length f.marks) × (length f.marks ≤ 1048576) × (count ≤ n))
-        × (Fit (length f.marks) f × Matched n s)
-    readable_there l m =
-        let y = accepted f w h z in
-        ((omega (arith, y.width.0), there, omega (arith, y.few, y.fit.marks), l), (subst (λ (k : ℕ). Fit k f) (sym y.fit.marks) y.fit, m))
 
   -- ---- the whole run
   module _ {ws₀ ns₀ : List ℕ} where

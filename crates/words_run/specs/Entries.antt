@@ -1,5 +1,5 @@
 -- Inner vocabulary. A run as the code goes through it: the two lent slices as entries, one for each pixel, and the word of a pixel from its column and row. Definitions only.
-use Rattle.std.specs.Prelude.{ℕ, ◌+◌, ◌*◌, ◌/◌, ◌%◌, ◌≤◌, ◌<◌, ◌≡◌, List, length, set, if◌then◌else◌, ◌==◌, slice_index}
+use Rattle.std.specs.Prelude.{ℕ, ◌+◌, ◌*◌, ◌/◌, ◌%◌, ◌≤◌, ◌<◌, ◌≡◌, List, length, set, if◌then◌else◌, ◌==◌}
 use Rattle.frame_pixel.specs.declared.Pixel.{Pixel}
 use Rattle.words_pack.specs.declared.Bytes2.{Bytes2}
 use Rattle.words_pack.specs.declared.FramebufferEncoding.{FramebufferEncoding}
@@ -8,7 +8,6 @@ use Rattle.words_pack.specs.Color.{pack_color_of}
 use Rattle.words_pack.specs.Dither.{threshold_of}
 use Rattle.words_pack.specs.Writer as writer
 use Rattle.frame.specs.Frame.{Frame, pixel_at}
-use Rattle.frame.specs.Lent.{Slice, old, new}
 use Rattle.words_read.specs.Read.{WordAnswer, no_word, readable, bytes_of}
 use Rattle.words_run.specs.declared.entry.Place.{Place}
 use Rattle.words_run.specs.Run.{entry_of}
@@ -42,27 +41,12 @@ pub record Wrote (answer : ℕ → WordAnswer) (lo hi n : ℕ) (before after : E
   pub written : (i : ℕ) → lo ≤ i → i < hi → entry_at after i ≡ answer i
   pub kept : (i : ℕ) → i < lo → entry_at after i ≡ entry_at before i
 
--- ---- what a call does to the two slices that it is lent
-
--- it writes one entry
-abbrev pub PutIn : ℕ → WordAnswer → Slice ℕ → Slice ℕ → Type 0
-PutIn i x words numbers = entries_of (new words) (new numbers) ≡ put_entry (entries_of (old words) (old numbers)) i x
-
--- it writes entries lo to hi - 1
-abbrev pub WroteIn : (ℕ → WordAnswer) → ℕ → ℕ → Slice ℕ → Slice ℕ → Type 0
-WroteIn answer lo hi words numbers =
-    Wrote answer lo hi (length (old numbers)) (entries_of (old words) (old numbers)) (entries_of (new words) (new numbers))
-
 -- ---- an answer
 abbrev pub answer_of : ℕ → Bytes2 → WordAnswer
 answer_of number word = record { number = number; word = word }
 
 abbrev pub refused_by : ℕ → WordAnswer
 refused_by k = answer_of k no_word
-
--- a pixel's colour bytes as `encode` takes them
-abbrev pub color_at : List ℕ → ℕ → Rgba8
-color_at colors p = record { r = slice_index colors (3 * p); g = slice_index colors (3 * p + 1); b = slice_index colors (3 * p + 2); a = 0 }
 
 -- the two bytes of the pixel in column x and row y: 16 bits with the coverage's top bit, or one byte
 abbrev pub halfword : ℕ → ℕ → ℕ → FramebufferEncoding → Rgba8 → ℕ → Bytes2
