@@ -1,15 +1,16 @@
 -- The rows of a shape: a pixel with no sample emits nothing, so that nothing is lost by the rows and the parts of a row that are left out; and how many pixels they
 -- emit. Assumes nothing.
 use mathlib.Core.Path.{◌≡◌, refl, sym, subst, ◌∙◌}
-use mathlib.Core.Bool.{Bool}
-use Rattle.std.specs.Prelude.{is_none}
+use mathlib.Core.Bool.{cond}
 use mathlib.Core.List.{List, []}
 use Prim.Native.Nat.{ℕ, ◌+◌, ◌-◌, ◌*◌, ◌≤◌, ◌<◌}
 use native.Mathlib.Nat.{add-zero}
 use native.Mathlib.Omega.{arith}
 use lib.ListN.{length}
+use Rattle.std.specs.Prelude.{Option, Some, None}
 use Rattle.state.specs.declared.RenderMode.{RenderMode}
 use Rattle.combiner.specs.declared.Combiner.{Combiner}
+use Rattle.raster_pixel.specs.declared.view.View.{View}
 use Rattle.raster_range.specs.declared.Range.{Range}
 use Rattle.raster_range.specs.Kept.{Kept}
 use Rattle.raster_edges.specs.declared.Edges.{Edges}
@@ -18,40 +19,37 @@ use Rattle.raster_edges.specs.Bound.{no_sample, no_row}
 use Rattle.raster_edges.specs.Span.{edges_of}
 use Rattle.raster_vertex.specs.declared.row.ShadeRow.{ShadeRow}
 use Rattle.raster_pixel.specs.Parts.{from}
-use Rattle.raster_pixel.specs.Emitted.{Emit}
+use Rattle.raster_edges.specs.Sample.{mask_of}
+use Rattle.raster_pixel.specs.Emitted.{Emit, shown, emits}
 use Rattle.raster_pixel.proofs.Kept.{kept_all}
 use Rattle.raster_pixel.proofs.Parts.{from_none, from_empty, parts_bound}
-use Rattle.frame.specs.Frame.{Frame}
-use Rattle.frame.specs.Fits.{Fit}
 use Rattle.frame_paint.specs.declared.prepare.Paint.{Paint}
-use Rattle.frame_paint.specs.declared.rows.Hue.{Hue}
-use Rattle.frame_paint.specs.Pixel.{Drew}
-use Rattle.frame_paint.specs.Row.{pixel_of, row_at}
-use Rattle.frame_paint.proofs.Drawing.{Drawing, drawing_more, drawing_count, drew_as}
+use Rattle.frame_paint.specs.declared.Target.{Target}
+use Rattle.frame_paint.specs.Pixel.{DrewOn}
+use Rattle.frame_paint.specs.Row.{painted, fragment_of, row_at}
+use Rattle.frame_paint.proofs.Drawing.{DrawingOn, drawing_more, drew_as, drew_nothing}
 use Rattle.frame_paint.proofs.Joins.{row_most}
 use Rattle.rasterize.specs.Shape.{Shading, shades_on, shape_pixel, shape_row}
 
 -- ---- a pixel
-unseen : (antialias : Bool) (mask : ℕ) (hue : Hue) (w y x : ℕ) → mask ≡ 0 → pixel_of antialias mask hue w y x ≡ []
-unfolding pixel_of
-unseen antialias mask hue w y x e = λ i. pixel_of antialias (e i) hue w y x
+unseen : (paint : Paint) (shades : Option ShadeRow) (e : Edges) (w y x : ℕ) → mask_of e x ≡ 0 → row_at paint shades e w y x ≡ []
+unfolding fragment_of
+unseen paint shades e w y x h = λ i. emits (cond (shown paint.mode.antialias (h i)) (Some (painted paint shades (h i) x)) None) (y * w + x)
 
 -- ---- a row
-module _ (paint : Paint) (shading : Shading) (t : Tri) (w l r y : ℕ) {e : Edges} {k : Range} (ee : e ≡ edges_of t y) (kept : Kept (no_sample e) l r k) where
-  row_kept :
-      {flat : Bool} {row : ShadeRow} → flat ≡ is_none shading → row ≡ shades_on shading y
-      → from (row_at paint flat row e w y) k.start k.end ≡ shape_row paint shading t w l r y
-  row_kept {flat} {row} ef er =
-      sym (kept_all (row_at paint flat row e w y) (no_sample e) (λ x. unseen _ _ _ w y x) kept) ∙ (λ i. from (row_at paint (ef i) (er i) (ee i) w y) l r)
+module _ (paint : Paint) (shading : Shading) (t : Tri) (w l r y : ℕ) {e : Edges} (ee : e ≡ edges_of t y) {k : Range} (kept : Kept (no_sample e) l r k) where
+  row_kept : {row : Option ShadeRow} → row ≡ shades_on shading y → from (row_at paint row e w y) k.start k.end ≡ shape_row paint shading t w l r y
+  row_kept {row} er =
+      sym (kept_all (row_at paint row e w y) (no_sample e) (λ x. unseen _ _ _ w y x) kept) ∙ (λ i. from (row_at paint (er i) (ee i) w y) l r)
 
   pub row_none : k.end ≤ k.start → shape_row paint shading t w l r y ≡ []
-  row_none h = sym (row_kept refl refl) ∙ from_none (row_at paint (is_none shading) (shades_on shading y) e w y) k.start k.end h
+  row_none h = sym (row_kept refl) ∙ from_none (row_at paint (shades_on shading y) e w y) k.start k.end h
 
   pub row_drawn :
-      {flat : Bool} {row : ShadeRow} {m n : ℕ} {f g : Frame} → flat ≡ is_none shading → row ≡ shades_on shading y
-      → Drew paint.mode paint.combiner m (from (row_at paint flat row e w y) k.start k.end) f g n
-      → Drew paint.mode paint.combiner m (shape_row paint shading t w l r y) f g n
-  row_drawn ef er = drew_as (row_kept ef er)
+      {row : Option ShadeRow} {n : ℕ} {before after : Target} → row ≡ shades_on shading y
+      → DrewOn paint.mode paint.combiner (from (row_at paint row e w y) k.start k.end) before after n
+      → DrewOn paint.mode paint.combiner (shape_row paint shading t w l r y) before after n
+  row_drawn er = drew_as (row_kept er)
 
 -- ---- rows
 module _ (paint : Paint) (shading : Shading) (t : Tri) (w l r : ℕ) where
@@ -64,25 +62,10 @@ module _ (paint : Paint) (shading : Shading) (t : Tri) (w l r : ℕ) where
 
   pub rows_most : r ≤ 1024 → (a b : ℕ) → length (from (shape_row paint shading t w l r) a b) ≤ (b - a) * 1024
   rows_most h a b =
-      parts_bound (shape_row paint shading t w l r) 1024
-      (λ y. omega (arith, row_most paint (is_none shading) (shades_on shading y) (edges_of t y) w y l r)) (b - a) a
+      parts_bound (shape_row paint shading t w l r) 1024 (λ y. omega (arith, row_most paint (shades_on shading y) (edges_of t y) w y l r)) (b - a) a
 
--- ---- what emits nothing
-pub drew_nothing : {mode : RenderMode} {k : Combiner} {m : ℕ} {f : Frame} {es : List Emit} → es ≡ [] → Fit m f → Drew mode k m es f f 0
-drew_nothing {mode} {k} {m} {f} e h =
-    subst (λ (l : List Emit). Drew mode k m l f f 0) (sym e) (record { ran = record { state = refl; count = refl }; fit = h })
-
--- ---- a loop whose part emits nothing
-pub drawing_skip :
-    (mode : RenderMode) (k : Combiner) (c : ℕ → List Emit) (a b : ℕ) (f₀ : Frame) {i n : ℕ} {f : Frame}
-    → i < b → Drawing mode k c a b f₀ i f n → c i ≡ [] → Drawing mode k c a b f₀ (i + 1) f n
-drawing_skip mode k c a b f₀ {i} {n} {f} h l e =
-    drawing_count mode k c a b f₀ (add-zero n)
-    (drawing_more mode k c a b f₀ h l (drew_nothing e (subst (λ (m : ℕ). Fit m f) (sym l.fit.marks) l.fit)) refl)
-
--- by another name of the frame and of the count
-pub drawing_at :
-    {mode : RenderMode} {k : Combiner} {c : ℕ → List Emit} {a b : ℕ} {f₀ : Frame} {i m n : ℕ} {f g : Frame}
-    → g ≡ f → m ≡ n → Drawing mode k c a b f₀ i f n → Drawing mode k c a b f₀ i g m
-drawing_at {mode} {k} {c} {a} {b} {f₀} {i} {m} {n} {f} ef en d =
-    subst (λ (g : Frame). Drawing mode k c a b f₀ i g m) (sym ef) (subst (Drawing mode k c a b f₀ i f) (sym en) d)
+-- a loop over rows, one of which emits nothing
+pub row_skipped :
+    (mode : RenderMode) (k : Combiner) (c : View → ℕ → List Emit) (a b : ℕ) (t₀ : Target) {i n : ℕ} {t : Target}
+    → i < b → DrawingOn mode k c a b t₀ i t n → c t.view i ≡ [] → DrawingOn mode k c a b t₀ (i + 1) t n
+row_skipped mode k c a b t₀ {i} {n} {t} h l e = subst (DrawingOn mode k c a b t₀ (i + 1) t) (add-zero n) (drawing_more mode k c a b t₀ h l (drew_nothing t e))

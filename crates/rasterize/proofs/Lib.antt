@@ -2,4 +2,3 @@
 pub mod Same
 pub mod Kept
 pub mod Shapes
-pub mod Corners

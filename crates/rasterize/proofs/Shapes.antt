@@ -1,14 +1,13 @@
 -- What a shape draws is what the definitions emit. A pixel with its own shade is the definition's; a rectangle's has the definition's samples and its colour; a flat
 -- triangle's has its colour and another shade's alpha, which has no part in what is stored. Assumes nothing.
-use mathlib.Core.Path.{◌≡◌, refl, sym, ap, subst, ◌∙◌}
+use mathlib.Core.Path.{◌≡◌, refl, sym, ap, ◌∙◌}
 use mathlib.Core.Bool.{Bool, true, false, cond}
-use mathlib.Core.List.{List}
-use Rattle.std.specs.Prelude.{Option, None}
-use Prim.Native.Nat.{ℕ, ◌+◌, ◌*◌, ◌≤◌, ◌<◌}
+use mathlib.Core.List.{List, []}
+use Rattle.std.specs.Prelude.{Option, None, Some}
+use Prim.Native.Nat.{ℕ, ◌+◌, ◌*◌, ◌<◌}
 use native.Mathlib.Omega.{arith}
 use Rattle.num_float.specs.Color.{f1}
 use Rattle.combiner.specs.Combine.{color_of, full_shade}
-use Rattle.state.specs.declared.Rgba.{Rgba}
 use Rattle.combiner_resolved.specs.Resolved.{color_value, mixed_by}
 use Rattle.raster_range.specs.declared.Range.{Range}
 use Rattle.raster_range.specs.Kept.{Kept}
@@ -18,26 +17,27 @@ use Rattle.raster_edges.specs.Bound.{no_row}
 use Rattle.raster_edges.specs.Sample.{mask_of}
 use Rattle.raster_edges.specs.Span.{edges_of}
 use Rattle.raster_vertex.specs.declared.Vertex.{Vertex}
-use Rattle.raster_vertex.specs.declared.row.ShadeRow.{ShadeRow}
+use Rattle.raster_vertex.specs.declared.Triangle.{Triangle}
 use Rattle.raster_vertex.specs.Row.{row_of, shade_on}
 use Rattle.raster_vertex.specs.Shade.{shade_of}
 use Rattle.raster_vertex.proofs.Rows.{row_shade}
 use Rattle.raster_rectangle.specs.declared.Sides.{Sides}
 use Rattle.raster_rectangle.specs.Outline.{Outlines}
 use Rattle.raster_pixel.specs.declared.Area.{Area}
-use Rattle.raster_pixel.specs.declared.Scissor.{Scissor}
+use Rattle.raster_pixel.specs.declared.view.View.{View}
 use Rattle.raster_pixel.specs.Area.{area_of}
-use Rattle.raster_pixel.specs.Emitted.{Emit, shown, covered, emits, inside, triangle_fragment, rectangle_fragment, rectangle_emits}
+use Rattle.raster_pixel.specs.Emitted.{Emit, shown, covered, emits, inside, triangle_fragment, three_emits, rectangle_fragment, rectangle_emits}
 use Rattle.raster_pixel.specs.Parts.{from}
+use Rattle.raster_pixel.specs.SetUp.{set_up_by, set_up_emits}
 use Rattle.raster_pixel.proofs.Inside.{inside_area}
-use Rattle.frame.specs.Frame.{Frame}
+use Rattle.raster_pixel.proofs.SetUp.{set_up_emits-by}
 use Rattle.frame_paint.specs.declared.prepare.Paint.{Paint}
 use Rattle.frame_paint.specs.Steps.{step_frame}
-use Rattle.frame_paint.specs.Pixel.{Drew}
-use Rattle.frame_paint.specs.Paint.{Prepared, Ready}
-use Rattle.frame_paint.specs.Row.{hue_of, pixel_of, row_at}
-use Rattle.frame_paint.proofs.Drawing.{drew_as}
 use Rattle.frame_paint.proofs.Paints.{any_shade}
+use Rattle.frame_paint.specs.declared.Target.{Target}
+use Rattle.frame_paint.specs.Pixel.{DrewOn}
+use Rattle.frame_paint.specs.Row.{painted, fragment_of, row_at}
+use Rattle.frame_paint.proofs.Drawing.{drew_as}
 use Rattle.rasterize.specs.Shape.{Shading, shading_of, shape_pixel, shape_row, shape_emits}
 use Rattle.rasterize.proofs.Same.{Same, same_as, same_parts, drew_same}
 use Rattle.rasterize.proofs.Kept.{rows_kept}
@@ -45,83 +45,92 @@ use Rattle.rasterize.proofs.Kept.{rows_kept}
 -- ---- a triangle's pixel
 module _ (paint : Paint) (v : List Vertex) (e : Edges) (w y x : ℕ) where
   -- by its shade
-  smooth_pixel :
-      Ready paint → row_at paint false (row_of v y) e w y x ≡ emits (triangle_fragment paint.mode.antialias paint.combiner v e y x) (y * w + x)
-  unfolding pixel_of hue_of triangle_fragment
-  smooth_pixel p =
+  smooth_pixel : row_at paint (Some (row_of v y)) e w y x ≡ emits (triangle_fragment paint.mode.antialias paint.combiner v e y x) (y * w + x)
+  unfolding fragment_of triangle_fragment
+  smooth_pixel =
       let s = shade_on (row_of v y) x in
-      let color = (λ i. color_value (mixed_by (p.prepared.resolved i) s)) ∙ sym (p.mixes s) ∙ ap (color_of paint.combiner) (row_shade v x y) in
+      let color = (λ i. color_value (mixed_by (paint.resolves i) s)) ∙ sym (paint.mixed s) ∙ ap (color_of paint.combiner) (row_shade v x y) in
       λ i. emits (cond (shown paint.mode.antialias (mask_of e x)) (covered (mask_of e x) (color i) (row_shade v x y i).a) None) (y * w + x)
 
   -- of a flat paint
   flat_pixel :
-      Prepared paint → paint.flat ≡ true → (row : ShadeRow)
-      → Same (step_frame paint.mode paint.combiner) (row_at paint true row e w y x) (emits (triangle_fragment paint.mode.antialias paint.combiner v e y x) (y * w + x))
-  unfolding pixel_of hue_of triangle_fragment
-  flat_pixel p h row =
-      let s = shade_of v x y in
-      subst (λ (c : Option Rgba). Same (step_frame paint.mode paint.combiner) (row_at paint true row e w y x) (emits (cond (shown paint.mode.antialias (mask_of e x)) (covered (mask_of e x) c s.a) None) (y * w + x)))
-      (sym ((p.flat h).1 s)) (go (shown paint.mode.antialias (mask_of e x)))
+      paint.flat ≡ true
+      → Same (step_frame paint.mode paint.combiner) (row_at paint None e w y x) (emits (triangle_fragment paint.mode.antialias paint.combiner v e y x) (y * w + x))
+  unfolding fragment_of triangle_fragment
+  flat_pixel h = rw (paint.flattened h).1 (go (shown paint.mode.antialias (mask_of e x)))
     where
       go :
           (b : Bool)
-          → Same (step_frame paint.mode paint.combiner) (emits (cond b (covered (mask_of e x) (color_value paint.color) f1) None) (y * w + x))
+          → Same (step_frame paint.mode paint.combiner) (emits (cond b (Some (painted paint None (mask_of e x) x)) None) (y * w + x))
           (emits (cond b (covered (mask_of e x) (color_value paint.color) (shade_of v x y).a) None) (y * w + x))
-      go true = record { state = λ f. any_shade paint p (p.flat h).0 f (y * w + x) (mask_of e x) f1 (shade_of v x y).a; count = refl }
+      go true = record { state = λ f. any_shade paint (paint.flattened h).0 f (y * w + x) (mask_of e x) f1 (shade_of v x y).a; count = refl }
       go false = same_as refl
 
 -- flat where the paint is
-pub triangle_pixel :
-    (paint : Paint) (v : List Vertex) (t : Tri) (w y x : ℕ) → Ready paint
+triangle_pixel :
+    (paint : Paint) (v : List Vertex) (t : Tri) (w y x : ℕ)
     → Same (step_frame paint.mode paint.combiner) (shape_pixel paint (shading_of paint.flat v) t w y x)
     (emits (triangle_fragment paint.mode.antialias paint.combiner v (edges_of t y) y x) (y * w + x))
-triangle_pixel paint v t w y x p = go paint.flat refl
+triangle_pixel paint v t w y x = go paint.flat refl
   where
     go :
         (b : Bool) → paint.flat ≡ b
         → Same (step_frame paint.mode paint.combiner) (shape_pixel paint (shading_of b v) t w y x)
         (emits (triangle_fragment paint.mode.antialias paint.combiner v (edges_of t y) y x) (y * w + x))
-    go true h = flat_pixel paint v (edges_of t y) w y x p.prepared h _
-    go false h = same_as (smooth_pixel paint v (edges_of t y) w y x p)
+    go true h = flat_pixel paint v (edges_of t y) w y x h
+    go false h = same_as (smooth_pixel paint v (edges_of t y) w y x)
 
 -- ---- a rectangle's pixel
 rectangle_pixel :
-    (paint : Paint) (sides : Sides) (t : Tri) (w y x : ℕ) → Prepared paint → Outlines sides t → y < 1024 → x < 1024
+    (paint : Paint) (sides : Sides) (t : Tri) (w y x : ℕ) → Outlines sides t → y < 1024 → x < 1024
     → shape_pixel paint None t w y x ≡ emits (rectangle_fragment paint.mode.antialias (color_of paint.combiner full_shade) sides y x) (y * w + x)
-unfolding pixel_of hue_of rectangle_fragment
-rectangle_pixel paint sides t w y x p o hy hx =
+unfolding fragment_of rectangle_fragment
+rectangle_pixel paint sides t w y x o hy hx =
     let m = o.same x y hx hy in
-    λ i. emits (cond (shown paint.mode.antialias (m i)) (covered (m i) (sym p.color i) f1) None) (y * w + x)
+    λ i. emits (cond (shown paint.mode.antialias (m i)) (covered (m i) (sym paint.colored i) f1) None) (y * w + x)
 
 -- ---- all its pixels: the rows that are left out have no sample
-module _ (paint : Paint) (shading : Shading) (t : Tri) (s : Scissor) (w h : ℕ) where
+module _ (paint : Paint) (shading : Shading) (t : Tri) (v : View) {n : ℕ} {before after : Target} where
   pub rows_drawn :
-      {ar : Area} {rows : Range} {m n : ℕ} {f g : Frame} → ar ≡ area_of s w h → Kept (no_row t) ar.top ar.bottom rows
-      → Drew paint.mode paint.combiner m (from (shape_row paint shading t w ar.left ar.right) rows.start rows.end) f g n
-      → Drew paint.mode paint.combiner m (shape_emits paint shading t s w h) f g n
-  rows_drawn {ar} ea kept d =
+      {ar : Area} {rows : Range} → ar ≡ area_of v.scissor v.width v.height → Kept (no_row t) ar.top ar.bottom rows
+      → DrewOn paint.mode paint.combiner (from (shape_row paint shading t v.width ar.left ar.right) rows.start rows.end) before after n
+      → DrewOn paint.mode paint.combiner (shape_emits paint shading t v) before after n
+  rows_drawn {ar} ea kept =
       drew_as
-      (sym (rows_kept paint shading t w ar.left ar.right kept)
-      ∙ (λ i. from (shape_row paint shading t w (ea i).left (ea i).right) (ea i).top (ea i).bottom)
-      ∙ sym (inside_area s w h (shape_pixel paint shading t w)))
-      d
+      (sym (rows_kept paint shading t v.width ar.left ar.right kept)
+      ∙ (λ i. from (shape_row paint shading t v.width (ea i).left (ea i).right) (ea i).top (ea i).bottom)
+      ∙ sym (inside_area v.scissor v.width v.height (shape_pixel paint shading t v.width)))
 
   -- and other pixels that do the same
   pub shape_drawn :
-      {m n : ℕ} {f g : Frame} → w ≤ 1024 → h ≤ 1024 → (pixel : ℕ → ℕ → List Emit)
-      → ((y x : ℕ) → y < 1024 → x < 1024 → Same (step_frame paint.mode paint.combiner) (shape_pixel paint shading t w y x) (pixel y x))
-      → Drew paint.mode paint.combiner m (shape_emits paint shading t s w h) f g n
-      → Drew paint.mode paint.combiner m (inside s w h pixel) f g n
-  shape_drawn wide high pixel same d =
-      drew_same
-      (same_parts _ _ (λ y p q. same_parts _ _ (λ x j l. same y x (omega arith) (omega arith)))) d
+      (pixel : ℕ → ℕ → List Emit)
+      → ((y x : ℕ) → y < 1024 → x < 1024 → Same (step_frame paint.mode paint.combiner) (shape_pixel paint shading t v.width y x) (pixel y x))
+      → DrewOn paint.mode paint.combiner (shape_emits paint shading t v) before after n
+      → DrewOn paint.mode paint.combiner (inside v.scissor v.width v.height pixel) before after n
+  shape_drawn pixel same =
+      drew_same (same_parts _ _ (λ y p q. same_parts _ _ (λ x j l. same y x (omega (arith, v.sized.height_small)) (omega (arith, v.sized.width_small)))))
+
+-- ---- a triangle of a list
+module _ (paint : Paint) (cull : Bool) (v : View) (three : Option Triangle) where
+  emitted : {s : Option (Tri × List Vertex)} → s ≡ set_up_by cull three
+      → set_up_emits paint.mode paint.combiner v.scissor v.width v.height s ≡ three_emits paint.mode paint.combiner cull v.scissor v.width v.height three
+  emitted e = ap (set_up_emits paint.mode paint.combiner v.scissor v.width v.height) e ∙ set_up_emits-by paint.mode paint.combiner cull v.scissor v.width v.height three
+
+  pub triangle_drawn :
+      {t : Tri} {o : List Vertex} {shading : Shading} {n : ℕ} {before after : Target} → Some (t, o) ≡ set_up_by cull three → shading ≡ shading_of paint.flat o
+      → DrewOn paint.mode paint.combiner (shape_emits paint shading t v) before after n
+      → DrewOn paint.mode paint.combiner (three_emits paint.mode paint.combiner cull v.scissor v.width v.height three) before after n
+  triangle_drawn {t} {o} e es d =
+      drew_as (emitted e)
+      (shape_drawn paint (shading_of paint.flat o) t v _ (λ y x hy hx. triangle_pixel paint o t v.width y x) (drew_as (λ i. shape_emits paint (es i) t v) d))
+
+  pub triangle_skipped : None ≡ set_up_by cull three → three_emits paint.mode paint.combiner cull v.scissor v.width v.height three ≡ []
+  triangle_skipped e = sym (emitted e)
 
 -- ---- a rectangle
 pub rectangle_drawn :
-    (paint : Paint) → Prepared paint → (s : Scissor) {w h : ℕ} → w ≤ 1024 → h ≤ 1024 → (sides : Sides) {t : Tri} {m n : ℕ} {f g : Frame} → Outlines sides t
-    → Drew paint.mode paint.combiner m (shape_emits paint None t s w h) f g n
-    → Drew paint.mode paint.combiner m (rectangle_emits paint.mode paint.combiner s w h sides) f g n
+    (paint : Paint) (v : View) (sides : Sides) {t : Tri} {n : ℕ} {before after : Target} → Outlines sides t
+    → DrewOn paint.mode paint.combiner (shape_emits paint None t v) before after n
+    → DrewOn paint.mode paint.combiner (rectangle_emits paint.mode paint.combiner v.scissor v.width v.height sides) before after n
 unfolding rectangle_emits
-rectangle_drawn paint p s {w} {h} wide high sides {t} o =
-    shape_drawn paint None t s w h wide high (λ (y x : ℕ). emits (rectangle_fragment paint.mode.antialias (color_of paint.combiner full_shade) sides y x) (y * w + x))
-    (λ y x hy hx. same_as (rectangle_pixel paint sides t w y x p o hy hx))
+rectangle_drawn paint v sides {t} o = shape_drawn paint None t v _ (λ y x hy hx. same_as (rectangle_pixel paint sides t v.width y x o hy hx))

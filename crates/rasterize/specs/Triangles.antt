@@ -1,12 +1,17 @@
 -- Inner vocabulary. The triangles of a list. Definitions only.
-use Rattle.std.specs.Prelude.{ℕ, ◌/◌, Bool, List, Float, length}
-use Rattle.state.specs.declared.RenderMode.{RenderMode}
-use Rattle.combiner.specs.declared.Combiner.{Combiner}
-use Rattle.raster_pixel.specs.declared.Scissor.{Scissor}
+use Rattle.std.specs.Prelude.{ℕ, ◌/◌, List, length}
+use Rattle.raster_pixel.specs.declared.shapes.Shapes.{Shapes}
+use Rattle.raster_pixel.specs.declared.view.View.{View}
 use Rattle.raster_pixel.specs.Parts.{from}
 use Rattle.raster_pixel.specs.Admitted.{triangle_at}
 use Rattle.raster_pixel.specs.Emitted.{Emit, three_emits}
+use Rattle.frame_paint.specs.declared.prepare.Paint.{Paint}
 
--- the triangles of an index list
-abbrev pub triangles_of : RenderMode → Combiner → Bool → Scissor → ℕ → ℕ → List Float → List ℕ → List ℕ → List Emit
-triangles_of mode k cull s w h vs ps is = from (λ (i : ℕ). three_emits mode k cull s w h (triangle_at vs ps is i)) 0 (length is / 3)
+-- triangle i of an accepted draw
+abbrev pub triangle_of : Paint → Shapes → View → ℕ → List Emit
+triangle_of paint s v i =
+    three_emits paint.mode paint.combiner s.cull v.scissor v.width v.height (triangle_at s.lists.vertices.now s.lists.present.now s.lists.indices.now i)
+
+-- and all of them
+abbrev pub triangles_of : Paint → Shapes → View → List Emit
+triangles_of paint s v = from (triangle_of paint s v) 0 (length s.lists.indices.now / 3)

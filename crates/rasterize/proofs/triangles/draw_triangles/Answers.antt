@@ -1,23 +1,25 @@
-use Rattle.std.proofs.Common.{◌/◌, length, refl, arith}
+use Rattle.std.proofs.Common.{◌/◌, length, arith}
 use native.Mathlib.Nat.{le_trans}
-use Rattle.frame_paint.proofs.Drawing.{drawing_fits, drawing_more, drawing_done}
 use Rattle.raster_pixel.specs.Admitted.{triangle_at}
 use Rattle.raster_pixel.proofs.Counts.{triangles_most}
+use Rattle.frame_paint.proofs.Drawing.{drawing_fits, drawing_more, drawing_done}
 use Rattle.rasterize.proofs.triangles.draw_triangles.Goals as goal
 
 pub overflow_add-n : goal.overflow_add-n
 overflow_add-n c =
-    let a = c.args in
-    let room = c.requires.room in
+    let p = c.args.paint.now in
+    let s = c.args.shapes.now in
+    let v = c.args.target.now.view in
+    let l = s.lists in
     omega (
       arith,
-      le_trans (drawing_fits _ _ _ _ _ _ c.loop-i-test.true c.loop-i.invariant c.draw_indexed-drawn.ensures.drew)
-          (triangles_most a.scissor room.wide room.high a.paint.mode a.paint.combiner a.cull (triangle_at a.vertices.now a.present.now a.indices.now) (length a.indices.now / 3)),
-      c.requires.shape.1,
+      le_trans (drawing_fits _ _ _ _ _ _ c.loop-i-test.true c.loop-i.invariant c.draw_triangle-drawn.ensures)
+          (triangles_most v.scissor v.sized.width_small v.sized.height_small p.mode p.combiner s.cull (triangle_at l.vertices.now l.present.now l.indices.now) (length l.indices.now / 3)),
+      s.few,
     )
 
 pub loop-i-preserved : goal.loop-i-preserved
-loop-i-preserved c = drawing_more _ _ _ _ _ _ c.loop-i-test.true c.loop-i.invariant c.draw_indexed-drawn.ensures.drew refl
+loop-i-preserved c = drawing_more _ _ _ _ _ _ c.loop-i-test.true c.loop-i.invariant c.draw_triangle-drawn.ensures
 
 pub returns : goal.returns
-returns c = record { drew = drawing_done _ _ _ _ _ _ c.loop-i-test.false c.loop-i.invariant }
+returns c = drawing_done _ _ _ _ _ _ c.loop-i-test.false c.loop-i.invariant
