@@ -6,7 +6,7 @@ ghost use Rattle.std.specs.Prelude.{◌≡◌, ◌<◌};
 ghost use Rattle.c_emitted.specs.Emitted.{emitted_triangle, emitted_indexed, emitted_pixel};
 
 use combiner::Combiner;
-use raster_pixel::{Fragment, Geometry};
+use raster_pixel::{Fragment, Geometry, Lists, lists};
 use raster_vertex::Triangle;
 use rasterize_slow::Shape;
 
@@ -38,20 +38,18 @@ fn indexed(
     antialias: bool,
     combiner: Combiner,
     cull: bool,
-    vertices: &[f32],
-    present: &[u8],
-    indices: &[u32],
+    lists: &Lists,
     i: usize,
     y: u32,
     x: u32,
 ) -> Option<Fragment>
     requires { (x < 1024) × (y < 1024) }
-    ensures { result ≡ emitted_indexed antialias combiner cull vertices.now present.now indices.now i y x }
+    ensures { result ≡ emitted_indexed antialias combiner cull lists.now.vertices.now lists.now.present.now lists.now.indices.now i y x }
 {
-    if indices.len() / 3 <= i {
+    if lists.indices.len() / 3 <= i {
         return None;
     }
-    let t = raster_pixel::triangle_at(vertices, present, indices, i)?;
+    let t = lists::triangle_at(lists, i)?;
     triangle(antialias, combiner, cull, t, y, x)
 }
 
@@ -62,14 +60,12 @@ pub fn pixel(
     combiner: Combiner,
     cull: bool,
     geometry: Geometry,
-    vertices: &[f32],
-    present: &[u8],
-    indices: &[u32],
+    lists: &Lists,
     i: usize,
     y: u32,
     x: u32,
 ) -> Option<Fragment>
-    ensures { result ≡ emitted_pixel antialias combiner cull geometry vertices.now present.now indices.now i y x }
+    ensures { result ≡ emitted_pixel antialias combiner cull geometry lists.now.vertices.now lists.now.present.now lists.now.indices.now i y x }
 {
     if LIMIT <= x || LIMIT <= y {
         return None;
@@ -79,8 +75,6 @@ pub fn pixel(
         Geometry::Rectangle(sides) => {
             rasterize_slow::pixel(antialias, combiner, Shape::Rectangle(sides), y, x)
         }
-        Geometry::Triangles => indexed(
-            antialias, combiner, cull, vertices, present, indices, i, y, x,
-        ),
+        Geometry::Triangles => indexed(antialias, combiner, cull, lists, i, y, x),
     }
 }

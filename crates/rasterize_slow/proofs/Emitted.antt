@@ -1,4 +1,4 @@
--- What the slow engine emits is the emitted list of raster_pixel/specs/Emitted, pixel by pixel, and what that means for the frame and for the slots. Assumes nothing.
+-- What the slow engine emits is the emitted list of raster_pixel/specs/Emitted, pixel by pixel. Assumes nothing.
 use Prim.Native.Nat.{ℕ, ◌+◌, ◌*◌, ◌/◌, ◌≤◌}
 use mathlib.Core.Path.{◌≡◌, refl, sym, subst, ◌∙◌}
 use mathlib.Core.Bool.{Bool, true, false, cond, ◌||◌}
@@ -28,18 +28,12 @@ use Rattle.raster_pixel.specs.Admitted.{triangle_at}
 use Rattle.raster_pixel.specs.Area as area
 use Rattle.raster_pixel.specs.Emitted.{Emit, shown, covered, emits, inside, corner_of, triangle_fragment, triangle_emits, three_emits, rectangle_fragment, rectangle_emits, geometry_emits}
 use Rattle.raster_pixel.specs.Parts.{from}
-use Rattle.raster_pixel.proofs.Inside.{inside_area, bounded}
-use Rattle.raster_emitted.specs.Listed.{Slots}
-use Rattle.raster_emitted.specs.Masked.{masked_of}
-use Rattle.frame.specs.Frame.{Frame}
-use Rattle.frame.specs.Fits.{Fit}
-use Rattle.frame_paint.specs.Pixel.{Drew}
-use Rattle.frame_paint.specs.Steps.{draw_list}
+use Rattle.raster_pixel.specs.SetUp.{set_up_of, set_up_by, set_up_emits}
+use Rattle.raster_pixel.proofs.Inside.{inside_area}
+use Rattle.raster_pixel.proofs.SetUp.{set_up_emits-by}
 use Rattle.rasterize_slow.specs.declared.Shape.{Shape}
 use Rattle.rasterize_slow.specs.declared.Shape.TheVariants.{Triangle, Rectangle}
-use Rattle.rasterize_slow.specs.declared.Walk.{Walk}
-use Rattle.rasterize_slow.specs.Shape.{shape_fragment, triangle_shape, three_shape, pixel_emits, shape_emits, walk_emits}
-use Rattle.rasterize_slow.specs.Sent.{Laid, Sent}
+use Rattle.rasterize_slow.specs.Shape.{shape_fragment, shape_of, triangle_shape, three_shape, Walk, pixel_emits, shape_emits, walk_emits}
 use Rattle.rasterize_slow.proofs.Samples.{triangle_mask, rectangle_mask}
 
 -- ---- a pixel
@@ -57,21 +51,21 @@ module _ (antialias : Bool) (k : Combiner) (y x : ℕ) where
   optional_fragment (Some shape) = shape_fragment antialias k shape y x
 
   pub skipped_fragment :
-      (cull : Bool) (a b c : Vertex)
-      → (let o = sorted (a ∷ b ∷ c ∷ []) in let corners = map corner_of o in
-      optional_fragment (triangle_shape cull a b c)
-      ≡ cond (culled_of cull a b c || eqb (nat_abs (area_of corners)) 0) None (triangle_fragment antialias k o (edges_of (tri_of corners) y) y x))
-  unfolding triangle_shape
-  skipped_fragment cull a b c =
-      let o = sorted (a ∷ b ∷ c ∷ []) in
-      go (culled_of cull a b c || eqb (nat_abs (area_of (map corner_of o))) 0) (tri_of (map corner_of o)) o
+      (cull : Bool) (t : vertices.Triangle)
+      → (let o = sorted (t.a ∷ t.b ∷ t.c ∷ []) in let corners = map corner_of o in
+      optional_fragment (triangle_shape cull t)
+      ≡ cond (culled_of cull t.a t.b t.c || eqb (nat_abs (area_of corners)) 0) None (triangle_fragment antialias k o (edges_of (tri_of corners) y) y x))
+  unfolding set_up_of
+  skipped_fragment cull t =
+      let o = sorted (t.a ∷ t.b ∷ t.c ∷ []) in
+      go (culled_of cull t.a t.b t.c || eqb (nat_abs (area_of (map corner_of o))) 0) (tri_of (map corner_of o)) o
     where
       go :
-          (skipped : Bool) (t : Tri) (o : List Vertex)
-          → optional_fragment (cond skipped None (Some (Triangle t o)))
-          ≡ cond skipped None (triangle_fragment antialias k o (edges_of t y) y x)
-      go true t o = refl
-      go false t o = triangle-fragment t o
+          (skipped : Bool) (e : Tri) (o : List Vertex)
+          → optional_fragment (shape_of (cond skipped None (Some (e, o))))
+          ≡ cond skipped None (triangle_fragment antialias k o (edges_of e y) y x)
+      go true e o = refl
+      go false e o = triangle-fragment e o
 
   pub rectangle-fragment : (s : Sides) → shape_fragment antialias k (Rectangle s) y x ≡ rectangle_fragment antialias (color_of k full_shade) s y x
   unfolding shape_fragment rectangle_fragment
@@ -89,33 +83,18 @@ module _ (v : Walk) (s : Scissor) (h : ℕ) (ea : v.area ≡ area.area_of s v.wi
   abbrev w : ℕ
   w = v.width
 
-  pub laid : area.Sized s w h → Laid v
-  laid z =
-      let b = bounded s w h ea in
-      record { across = b.across; down = b.down; inside = b.right_in; wide = z.width_small; high = omega (arith, b.bottom_in, z.height_small) }
-
   -- every pixel inside the scissor
   by_pixel :
       (shape : Shape) (pixel : ℕ → ℕ → List Emit) → ((y x : ℕ) → pixel_emits v shape y x ≡ pixel y x) → shape_emits v (Some shape) ≡ inside s w h pixel
   by_pixel shape pixel e =
       (λ i. from (λ (y : ℕ). from (λ (x : ℕ). e y x i) (ea i).left (ea i).right) (ea i).top (ea i).bottom) ∙ sym (inside_area s w h pixel)
 
-  triangle-emits : (cull : Bool) (a b c : Vertex) → shape_emits v (triangle_shape cull a b c) ≡ triangle_emits mode k cull s w h a b c
-  unfolding triangle_shape triangle_emits
-  triangle-emits cull a b c =
-      let o = sorted (a ∷ b ∷ c ∷ []) in
-      go (culled_of cull a b c || eqb (nat_abs (area_of (map corner_of o))) 0) (tri_of (map corner_of o)) o
-    where
-      go :
-          (skipped : Bool) (t : Tri) (o : List Vertex)
-          → shape_emits v (cond skipped None (Some (Triangle t o)))
-          ≡ cond skipped [] (inside s w h (λ (y x : ℕ). emits (triangle_fragment mode.antialias k o (edges_of t y) y x) (y * w + x)))
-      go true t o = refl
-      go false t o = by_pixel _ _ (λ y x i. emits (triangle-fragment mode.antialias k y x t o i) (y * w + x))
+  set-up-emits : (p : Option (Tri × List Vertex)) → shape_emits v (shape_of p) ≡ set_up_emits mode k s w h p
+  set-up-emits None = refl
+  set-up-emits (Some p) = by_pixel _ _ (λ y x i. emits (triangle-fragment mode.antialias k y x p.0 p.1 i) (y * w + x))
 
   three-emits : (cull : Bool) (t : Option vertices.Triangle) → shape_emits v (three_shape cull t) ≡ three_emits mode k cull s w h t
-  three-emits cull None = refl
-  three-emits cull (Some t) = triangle-emits cull t.a t.b t.c
+  three-emits cull t = set-up-emits (set_up_by cull t) ∙ set_up_emits-by mode k cull s w h t
 
   -- A draw: the slow engine's list is the one emitted list.
   pub walk-emits :
@@ -124,13 +103,3 @@ module _ (v : Walk) (s : Scissor) (h : ℕ) (ea : v.area ≡ area.area_of s v.wi
   walk-emits cull vs ps is geometry.Nothing = refl
   walk-emits cull vs ps is (geometry.Rectangle sides) = by_pixel _ _ (λ y x i. emits (rectangle-fragment mode.antialias k y x sides i) (y * w + x))
   walk-emits cull vs ps is geometry.Triangles = λ i. from (λ (j : ℕ). three-emits cull (triangle_at vs ps is j) i) 0 (length is / 3)
-
--- ---- a walk that draws, and counts as far as it emits
-pub sent_drew :
-    (v : Walk) {es : List Emit} {m : ℕ} {f g : Frame} {s t : Slots} → v.draws ≡ true → length es ≤ v.window.limit → Sent v es 0 m f g s t
-    → Drew v.mode v.combiner (length f.marks) es f g m
-sent_drew v {es} {f = f} {g} p few d =
-    record {
-      ran = record { state = d.drawn ∙ (λ i. cond (p i) (draw_list v.mode v.combiner f es) f); count = omega (arith, d.listed.count, length-map es masked_of) };
-      fit = subst (λ (n : ℕ). Fit n g) d.marks (d.room p).fit;
-    }

@@ -6,7 +6,7 @@ use mathlib.Core.List.{List}
 use native.Mathlib.Nat.{add-zero}
 use native.Mathlib.Omega.{arith}
 use Rattle.combiner.specs.declared.Combiner.{Combiner}
-use Rattle.std.specs.Prelude.{Option, Some, None}
+use Rattle.std.specs.Prelude.{Option, Some, None, IfSome}
 use Rattle.state.specs.declared.Rgba.{Rgba}
 use Rattle.combiner.specs.Combine.{color_of}
 use Rattle.raster_vertex.specs.declared.Vertex.{Vertex}
@@ -16,11 +16,12 @@ use Rattle.raster_edges.specs.Span.{line_of, edges_of}
 use Rattle.raster_edges.proofs.Pairs.{bit_lt}
 use Rattle.raster_rectangle.specs.declared.Sides.{Sides}
 use Rattle.raster_rectangle.specs.Rectangle.{inside_of, sample_x, sample_y, sample_bit, row_bits, rect_mask}
+use Rattle.raster_pixel.specs.declared.Fragment.{Fragment}
 use Rattle.raster_pixel.specs.Emitted.{shown, covered}
 use Rattle.raster_pixel.proofs.Masks.{shown_some}
 use Rattle.rasterize_slow.specs.declared.Shape.{Shape}
 use Rattle.rasterize_slow.specs.declared.Shape.TheVariants.{Triangle, Rectangle}
-use Rattle.rasterize_slow.specs.Shape.{sample_hit, pair_hit, shape_mask, shape_shade, shape_fragment, HasSample}
+use Rattle.rasterize_slow.specs.Shape.{sample_hit, pair_hit, shape_mask, shape_shade, shape_fragment}
 
 pub pair_lt : (shape : Shape) (y x line : ℕ) → pair_hit shape y x line < 4
 unfolding pair_hit
@@ -69,11 +70,11 @@ rectangle_mask s y x =
     one line side n = scaled (inside_of s (sample_x x line side) (sample_y y line)) n
 
 -- ---- what a pixel emits has a sample
-pub fragment_some : (antialias : Bool) (k : Combiner) (shape : Shape) (y x : ℕ) → HasSample (shape_fragment antialias k shape y x)
+pub fragment_some : (antialias : Bool) (k : Combiner) (shape : Shape) (y x : ℕ) → IfSome (shape_fragment antialias k shape y x) (λ (f : Fragment). 0 < f.mask)
 unfolding shape_fragment
 fragment_some antialias k shape y x = go (shown antialias (shape_mask shape y x)) refl (color_of k (shape_shade shape y x))
   where
-    go : (b : Bool) → shown antialias (shape_mask shape y x) ≡ b → (c : Option Rgba) → HasSample (cond b (covered (shape_mask shape y x) c (shape_shade shape y x).a) None)
+    go : (b : Bool) → shown antialias (shape_mask shape y x) ≡ b → (c : Option Rgba) → IfSome (cond b (covered (shape_mask shape y x) c (shape_shade shape y x).a) None) (λ (f : Fragment). 0 < f.mask)
     go false e c = tt
     go true e None = tt
-    go true e (Some c) = (shown_some antialias (shape_mask shape y x) e, mask_lt shape y x)
+    go true e (Some c) = shown_some antialias (shape_mask shape y x) e

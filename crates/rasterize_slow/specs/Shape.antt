@@ -1,27 +1,31 @@
 -- Inner vocabulary. A shape as the slow engine has it, sample by sample, and what its pixels emit. Definitions only; that these are the pixels of raster_pixel/specs/Emitted
 -- is proofs/Emitted.
-use Rattle.std.specs.Prelude.{ℕ, ◌+◌, ◌*◌, ◌/◌, ◌<◌, Bool, ◌||◌, List, [], ◌∷◌, map, nat_abs, Float, length, Option, None, Some, if◌then◌else◌, ◌==◌}
+use Rattle.std.specs.Prelude.{ℕ, ◌+◌, ◌*◌, ◌/◌, ◌<◌, Bool, List, [], Float, length, Option, None, Some, if◌then◌else◌}
+use Rattle.state.specs.declared.RenderMode.{RenderMode}
 use Rattle.state.specs.declared.Rgba.{Rgba}
 use Rattle.combiner.specs.declared.Combiner.{Combiner}
 use Rattle.combiner.specs.Combine.{color_of, full_shade}
 use Rattle.raster_vertex.specs.declared.Vertex.{Vertex}
-use Rattle.raster_vertex.specs.Sorted.{sorted}
-use Rattle.raster_vertex.specs.Shade.{culled_of, shade_of}
-use Rattle.raster_edges.specs.Edge.{area_of}
+use Rattle.raster_vertex.specs.Shade.{shade_of}
 use Rattle.raster_edges.specs.Limits.{TameTri}
-use Rattle.raster_edges.specs.Span.{tri_of, line_of}
+use Rattle.raster_edges.specs.declared.Tri.{Tri}
+use Rattle.raster_edges.specs.Span.{line_of}
 use Rattle.raster_edges.specs.Sample.{bit_of, inside, sample_at}
 use Rattle.raster_rectangle.specs.Rectangle.{inside_of, sample_x, sample_y}
 use Rattle.raster_pixel.specs.declared.Fragment.{Fragment}
 use Rattle.raster_pixel.specs.declared.Geometry.{Geometry}
 use Rattle.raster_pixel.specs.declared.Geometry.TheVariants as geometry
+use Rattle.raster_pixel.specs.declared.Area.{Area}
+use Rattle.raster_pixel.specs.declared.shapes.Shapes.{Shapes}
+use Rattle.raster_pixel.specs.declared.view.View.{View}
+use Rattle.raster_pixel.specs.Area.{area_of}
+use Rattle.raster_pixel.specs.SetUp.{set_up_of, set_up_by}
 use Rattle.raster_vertex.specs.declared.Triangle as vertices
 use Rattle.raster_pixel.specs.Admitted.{triangle_at}
-use Rattle.raster_pixel.specs.Emitted.{Emit, shown, covered, emits, corner_of}
+use Rattle.raster_pixel.specs.Emitted.{Emit, shown, covered, emits}
 use Rattle.raster_pixel.specs.Parts.{from}
 use Rattle.rasterize_slow.specs.declared.Shape.{Shape}
 use Rattle.rasterize_slow.specs.declared.Shape.TheVariants.{Triangle, Rectangle}
-use Rattle.rasterize_slow.specs.declared.Walk.{Walk}
 
 -- ---- samples
 
@@ -48,11 +52,6 @@ unfoldable pub shape_fragment : Bool → Combiner → Shape → ℕ → ℕ → 
 shape_fragment antialias k shape y x =
     if shown antialias (shape_mask shape y x) then covered (shape_mask shape y x) (color_of k (shape_shade shape y x)) (shape_shade shape y x).a else None
 
--- what is emitted has a sample
-abbrev pub HasSample : Option Fragment → Type 0
-HasSample None = Unit
-HasSample (Some f) = (0 < f.mask) × (f.mask < 256)
-
 -- ---- shapes
 
 -- nothing overflows on its edges
@@ -60,22 +59,28 @@ abbrev pub TameShape : Shape → Type 0
 TameShape (Triangle t o) = TameTri t
 TameShape (Rectangle s) = Unit
 
-abbrev pub TameIfSome : Option Shape → Type 0
-TameIfSome None = Unit
-TameIfSome (Some shape) = TameShape shape
+-- a triangle that is set up to be drawn
+abbrev pub shape_of : Option (Tri × List Vertex) → Option Shape
+shape_of None = None
+shape_of (Some p) = Some (Triangle p.0 p.1)
 
--- a triangle by the edges between its corners, sorted; nothing where it is culled or its area in quarter units is 0
-unfoldable pub triangle_shape : Bool → Vertex → Vertex → Vertex → Option Shape
-triangle_shape cull a b c =
-    let o = sorted (a ∷ b ∷ c ∷ []) in
-    let corners = map corner_of o in
-    if culled_of cull a b c || nat_abs (area_of corners) == 0 then None else Some (Triangle (tri_of corners) o)
+abbrev pub triangle_shape : Bool → vertices.Triangle → Option Shape
+triangle_shape cull t = shape_of (set_up_of cull t)
 
 abbrev pub three_shape : Bool → Option vertices.Triangle → Option Shape
-three_shape cull None = None
-three_shape cull (Some t) = triangle_shape cull t.a t.b t.c
+three_shape cull t = shape_of (set_up_by cull t)
 
 -- ---- what a walk emits: a pixel, a row, a shape, the triangles of a list, a draw
+
+-- what all its pixels share
+pub record Walk : Type 0 where
+  pub mode : RenderMode
+  pub combiner : Combiner
+  pub width : ℕ
+  pub area : Area
+
+abbrev pub walk_of : View → Shapes → Walk
+walk_of v d = record { mode = d.mode; combiner = d.combiner; width = v.width; area = area_of v.scissor v.width v.height }
 
 abbrev pub pixel_emits : Walk → Shape → ℕ → ℕ → List Emit
 pixel_emits v shape y x = emits (shape_fragment v.mode.antialias v.combiner shape y x) (y * v.width + x)

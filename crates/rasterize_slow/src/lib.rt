@@ -4,74 +4,57 @@
 // walks through it on one triangle.
 #![tactic(auto)]
 
-ghost use Rattle.std.specs.Prelude.{◌≡◌, true, ◌/◌, ◌<◌, ◌≤◌, length, if◌then◌else◌, ◌==◌};
-ghost use Rattle.frame.specs.Lent.{lent, before, after};
-ghost use Rattle.frame.specs.Fits.{Fit};
-ghost use Rattle.frame_paint.specs.Pixel.{Room, DrewOn, emit_of};
-ghost use Rattle.frame_paint.specs.Paint.{Mixed};
-ghost use Rattle.frame_paint.specs.Steps.{step_frame};
+ghost use Rattle.std.specs.Prelude.{◌≡◌, ◌/◌, ◌<◌, length, IfSome};
 ghost use Rattle.raster_pixel.specs.declared.Geometry.TheVariants.{Triangles};
-ghost use Rattle.raster_pixel.specs.Admitted.{admitted_of, triangle_at};
-ghost use Rattle.raster_pixel.specs.Area.{Sized};
-ghost use Rattle.raster_pixel.specs.Near.{CornersNear, TrianglesNear};
-ghost use Rattle.raster_pixel.specs.Emitted.{emits, geometry_emits};
+ghost use Rattle.raster_pixel.specs.Admitted.{triangle_at};
+ghost use Rattle.raster_pixel.specs.Near.{CornersNear};
+ghost use Rattle.raster_pixel.specs.Emitted.{geometry_emits};
 ghost use Rattle.raster_emitted.specs.Shapes.{geometry_masks};
-ghost use Rattle.raster_emitted.specs.Listed.{ReadyIn, ListedIn};
-ghost use Rattle.rasterize_slow.specs.Shape.{sample_hit, pair_hit, shape_mask, shape_shade, shape_fragment, HasSample, TameShape, TameIfSome, triangle_shape, three_shape, row_emits, shape_emits, triangles_emits, walk_emits};
-ghost use Rattle.rasterize_slow.specs.Sent.{Laid, OpenIn, SentIn};
+ghost use Rattle.raster_emitted.specs.Listed.{ListedIn};
+ghost use Rattle.frame_paint.specs.Pixel.{DrewOn};
+ghost use Rattle.rasterize_slow.specs.Shape.{sample_hit, pair_hit, shape_mask, shape_shade, shape_fragment, TameShape, triangle_shape, three_shape, walk_of, pixel_emits, row_emits, shape_emits, triangles_emits, walk_emits};
+ghost use Rattle.rasterize_slow.specs.Sent.{Sent};
 
-use blender::Source;
+use crate::sink::{Listing, Sink};
 use combiner::Combiner;
+use frame_paint::Target;
 use raster_edges::Tri;
-use raster_emitted::slots::Window;
-use raster_pixel::{Area, Fragment, Geometry, Scissor};
+use raster_emitted::Slots;
+use raster_pixel::{Fragment, Geometry, Shapes, View, lists};
 use raster_rectangle::Sides;
 use raster_vertex::{Triangle, Vertex};
-use state::{RenderMode, Rgba};
+use state::Rgba;
 
-// A triangle by its edges and its vertices, sorted from the top down, or a rectangle by its sides.
+pub mod sink; // where emitted pixels go
+
+// A triangle by its edges and its vertices from the top down, or a rectangle by its sides.
 #[derive(Clone, Copy)]
 pub enum Shape {
     Triangle(Tri, [Vertex; 3]),
     Rectangle(Sides),
 }
 
-// What all pixels of a draw share. They are drawn on the frame if `draws`, and those of the window go to the slots.
-#[derive(Clone, Copy)]
-pub struct Walk {
-    pub draws: bool,
-    pub window: Window,
-    pub mode: RenderMode,
-    pub combiner: Combiner,
-    pub width: u32,
-    pub area: Area,
-}
-
 // ---- a triangle
 
-// The vertices sorted, their corners in quarters of a pixel, and the edges between them. Nothing of a triangle that is culled or whose area in quarter units is 0.
+// By the edges between its corners in quarters of a pixel, and its vertices from the top down. Nothing of a triangle that is culled or whose area in quarter units is 0.
 pub fn triangle(cull: bool, t: Triangle) -> Option<Shape>
     requires { CornersNear t.a t.b t.c }
-    ensures { result ≡ triangle_shape cull t.a t.b t.c }
+    ensures shape { result ≡ triangle_shape cull t }
+    ensures tame { IfSome result TameShape }
 {
-    if t.culled(cull) {
-        return None;
-    }
-    let vertices = raster_vertex::sort([t.a, t.b, t.c]);
-    let corners = raster_pixel::corners(vertices);
-    if raster_edges::quarter_area(corners) == 0 {
-        return None;
-    }
-    Some(Shape::Triangle(raster_edges::setup(corners), vertices))
+    let (edges, vertices) = raster_pixel::set_up(cull, t)?;
+    Some(Shape::Triangle(edges, vertices))
 }
 
-// Triangle i of an index list that is admitted.
-fn indexed(cull: bool, vertices: &[f32], present: &[u8], indices: &[u32], i: usize) -> Option<Shape>
-    requires { (i < length indices.now / 3) × TrianglesNear vertices.now present.now indices.now }
-    ensures { result ≡ three_shape cull (triangle_at vertices.now present.now indices.now i) }
+// Triangle i of an accepted draw.
+fn indexed(shapes: &Shapes, i: usize) -> Option<Shape>
+    requires triangles { shapes.now.geometry ≡ Triangles }
+    requires listed { i < length shapes.now.lists.indices.now / 3 }
+    ensures shape { result ≡ three_shape shapes.now.cull (triangle_at shapes.now.lists.vertices.now shapes.now.lists.present.now shapes.now.lists.indices.now i) }
+    ensures tame { IfSome result TameShape }
 {
-    let t = raster_pixel::triangle_at(vertices, present, indices, i)?;
-    triangle(cull, t)
+    let t = lists::triangle_at(&shapes.lists, i)?;
+    triangle(shapes.cull, t)
 }
 
 // ---- the samples of a pixel
@@ -150,257 +133,92 @@ pub fn pixel(antialias: bool, combiner: Combiner, shape: Shape, y: u32, x: u32) 
     })
 }
 
-// Rules F1 to F5 at a pixel's place, if the walk draws.
-fn draw_pixel(
-    colors: &mut [u8],
-    coverages: &mut [u8],
-    marks: &mut [u8],
-    walk: Walk,
-    fragment: Fragment,
-    pixel: usize,
-)
-    requires mask_nonzero { 0 < fragment.mask }
-    requires pixel_in_bounds { walk.draws ≡ true → (pixel < length marks.old) × Fit (length marks.old) (lent colors coverages marks) }
-    ensures { let f = before colors coverages marks in
-        after colors coverages marks ≡ (if walk.draws then step_frame walk.mode walk.combiner f (emit_of pixel fragment.mask fragment.color fragment.shade_alpha) else f) }
-{
-    if !walk.draws {
-        return;
-    }
-    let before = frame::known_pixel(colors, coverages, marks, pixel);
-    let source = Source {
-        color: fragment.color,
-        shade_alpha: fragment.shade_alpha,
-        count: num_bits::ones(fragment.mask),
-    };
-    let after = frame_pixel::rules(walk.mode, walk.combiner, source, before);
-    frame::put_pixel(colors, coverages, marks, pixel, after);
-}
-
-// Emits a pixel, if it has something to emit: it is the draw's n-th. Answers how many pixels there are with it.
-fn emit(
-    colors: &mut [u8],
-    coverages: &mut [u8],
-    marks: &mut [u8],
-    pixels: &mut [u32],
-    masks: &mut [u8],
-    walk: Walk,
-    fragment: Option<Fragment>,
-    pixel: u32,
-    n: u64,
-) -> u64
-    requires open { OpenIn walk n colors coverages marks pixels masks }
-    requires there { HasSample fragment × (pixel < 1048576) × ((walk.draws ≡ true → pixel < length marks.old)) }
-    ensures sent { SentIn walk (emits fragment pixel) n result colors coverages marks pixels masks }
-{
-    let Some(fragment) = fragment else {
-        return n;
-    };
-    draw_pixel(colors, coverages, marks, walk, fragment, pixel as usize);
-    // Counted, and listed in its slot if it has one: a run of one pixel.
-    raster_emitted::slots::list_run(pixels, masks, walk.window, n, pixel, fragment.mask, 1)
-}
-
 // ---- every pixel of every row
 
-fn visit_row(
-    colors: &mut [u8],
-    coverages: &mut [u8],
-    marks: &mut [u8],
-    pixels: &mut [u32],
-    masks: &mut [u8],
-    walk: Walk,
-    shape: Shape,
-    y: u32,
-    n: u64,
-) -> u64
-    requires open { OpenIn walk n colors coverages marks pixels masks }
-    requires shape { Laid walk × (y < walk.area.bottom) × TameShape shape }
-    ensures sent { SentIn walk (row_emits walk shape y) n result colors coverages marks pixels masks }
+// Emits pixel (x, y) of a shape, if it has something to emit: how many are emitted.
+fn visit_pixel<S: Sink>(sink: &mut S, shapes: &Shapes, shape: Shape, y: u32, x: u32) -> u64
+    requires place { (x < (S.view sink.old).width) × (y < (S.view sink.old).height) }
+    requires tame { TameShape shape }
+    ensures sent { Sent (S.took shapes.now) (pixel_emits (walk_of (S.view sink.old) shapes.now) shape y x) sink.old sink.new result }
 {
-    let mut m = n;
-    for x in walk.area.left..walk.area.right {
-        let fragment = pixel(walk.mode.antialias, walk.combiner, shape, y, x);
-        let number = y * walk.width + x;
-        m = emit(
-            colors, coverages, marks, pixels, masks, walk, fragment, number, m,
-        );
-    }
-    m
+    let Some(fragment) = pixel(shapes.mode.antialias, shapes.combiner, shape, y, x) else {
+        return 0;
+    };
+    let number = y * sink.view().width + x;
+    sink.emit(shapes, fragment, number);
+    1
 }
 
-fn visit_rows(
-    colors: &mut [u8],
-    coverages: &mut [u8],
-    marks: &mut [u8],
-    pixels: &mut [u32],
-    masks: &mut [u8],
-    walk: Walk,
-    shape: Option<Shape>,
-    n: u64,
-) -> u64
-    requires open { OpenIn walk n colors coverages marks pixels masks }
-    requires shape { Laid walk × TameIfSome shape }
-    ensures sent { SentIn walk (shape_emits walk shape) n result colors coverages marks pixels masks }
+fn visit_row<S: Sink>(sink: &mut S, shapes: &Shapes, shape: Shape, y: u32) -> u64
+    requires row { y < (S.view sink.old).height }
+    requires tame { TameShape shape }
+    ensures sent { Sent (S.took shapes.now) (row_emits (walk_of (S.view sink.old) shapes.now) shape y) sink.old sink.new result }
+{
+    let area = sink.view().area();
+    let mut n = 0;
+    for x in area.left..area.right {
+        n += visit_pixel(sink, shapes, shape, y, x);
+    }
+    n
+}
+
+fn visit_rows<S: Sink>(sink: &mut S, shapes: &Shapes, shape: Option<Shape>) -> u64
+    requires tame { IfSome shape TameShape }
+    ensures sent { Sent (S.took shapes.now) (shape_emits (walk_of (S.view sink.old) shapes.now) shape) sink.old sink.new result }
 {
     let Some(shape) = shape else {
-        return n;
+        return 0;
     };
-    let mut m = n;
-    for y in walk.area.top..walk.area.bottom {
-        m = visit_row(colors, coverages, marks, pixels, masks, walk, shape, y, m);
+    let area = sink.view().area();
+    let mut n = 0;
+    for y in area.top..area.bottom {
+        n += visit_row(sink, shapes, shape, y);
     }
-    m
+    n
 }
 
 // ---- a draw
 
-fn visit_triangles(
-    colors: &mut [u8],
-    coverages: &mut [u8],
-    marks: &mut [u8],
-    pixels: &mut [u32],
-    masks: &mut [u8],
-    walk: Walk,
-    cull: bool,
-    vertices: &[f32],
-    present: &[u8],
-    indices: &[u32],
-) -> u64
-    requires open { OpenIn walk 0 colors coverages marks pixels masks }
-    requires near { Laid walk × TrianglesNear vertices.now present.now indices.now }
-    ensures sent { SentIn walk (triangles_emits walk cull vertices.now present.now indices.now) 0 result colors coverages marks pixels masks }
+fn visit_triangles<S: Sink>(sink: &mut S, shapes: &Shapes) -> u64
+    requires { shapes.now.geometry ≡ Triangles }
+    ensures sent { Sent (S.took shapes.now) (triangles_emits (walk_of (S.view sink.old) shapes.now) shapes.now.cull shapes.now.lists.vertices.now shapes.now.lists.present.now shapes.now.lists.indices.now) sink.old sink.new result }
 {
-    let mut m: u64 = 0;
-    for i in 0..indices.len() / 3 {
-        let shape = indexed(cull, vertices, present, indices, i);
-        m = visit_rows(colors, coverages, marks, pixels, masks, walk, shape, m);
+    let mut n = 0;
+    for i in 0..shapes.lists.indices.len() / 3 {
+        let shape = indexed(shapes, i);
+        n += visit_rows(sink, shapes, shape);
     }
-    m
+    n
 }
 
-fn visit(
-    colors: &mut [u8],
-    coverages: &mut [u8],
-    marks: &mut [u8],
-    pixels: &mut [u32],
-    masks: &mut [u8],
-    walk: Walk,
-    cull: bool,
-    geometry: Geometry,
-    vertices: &[f32],
-    present: &[u8],
-    indices: &[u32],
-) -> u64
-    requires open { OpenIn walk 0 colors coverages marks pixels masks }
-    requires near { Laid walk × ((geometry ≡ Triangles → TrianglesNear vertices.now present.now indices.now)) }
-    ensures sent { SentIn walk (walk_emits walk cull vertices.now present.now indices.now geometry) 0 result colors coverages marks pixels masks }
+fn visit<S: Sink>(sink: &mut S, shapes: &Shapes) -> u64
+    ensures sent { Sent (S.took shapes.now) (walk_emits (walk_of (S.view sink.old) shapes.now) shapes.now.cull shapes.now.lists.vertices.now shapes.now.lists.present.now shapes.now.lists.indices.now shapes.now.geometry) sink.old sink.new result }
 {
-    match geometry {
+    match shapes.geometry {
         Geometry::Nothing => 0,
         Geometry::Rectangle(sides) => {
             let shape = Some(Shape::Rectangle(sides));
-            visit_rows(colors, coverages, marks, pixels, masks, walk, shape, 0)
+            visit_rows(sink, shapes, shape)
         }
-        Geometry::Triangles => visit_triangles(
-            colors, coverages, marks, pixels, masks, walk, cull, vertices, present, indices,
-        ),
+        Geometry::Triangles => visit_triangles(sink, shapes),
     }
 }
 
-// The pixels of an accepted draw on the lent frame, and their count. No slots are lent, so that none is listed.
-pub fn rasterize(
-    colors: &mut [u8],
-    coverages: &mut [u8],
-    marks: &mut [u8],
-    mode: RenderMode,
-    combiner: Combiner,
-    cull: bool,
-    scissor: Scissor,
-    width: u32,
-    height: u32,
-    geometry: Geometry,
-    vertices: &[f32],
-    present: &[u8],
-    indices: &[u32],
-) -> u64
-    requires few { length indices.now ≤ 12288 }
-    requires admitted { admitted_of combiner geometry vertices.now present.now indices.now ≡ true }
-    requires sized { Sized scissor width height }
-    requires room { Room width height (lent colors coverages marks) }
-    ensures drew { DrewOn mode combiner (geometry_emits mode combiner cull scissor width height vertices.now present.now indices.now geometry) colors coverages marks result }
+// The pixels of an accepted draw on the lent frame, and their count.
+pub fn rasterize(target: &mut Target, shapes: &Shapes) -> u64
+    ensures drew { let s = shapes.now in
+        let view = target.old.view in
+        let emitted = geometry_emits s.mode s.combiner s.cull view.scissor view.width view.height s.lists.vertices.now s.lists.present.now s.lists.indices.now s.geometry in
+        DrewOn s.mode s.combiner emitted target.old target.new result }
 {
-    let mut pixels = [0u32; 0];
-    let mut masks = [0u8; 0];
-    let walk = Walk {
-        draws: true,
-        window: Window {
-            first: 0,
-            limit: u64::MAX,
-        },
-        mode,
-        combiner,
-        width,
-        area: raster_pixel::scissor_area(scissor, width, height),
-    };
-    visit(
-        colors,
-        coverages,
-        marks,
-        &mut pixels,
-        &mut masks,
-        walk,
-        cull,
-        geometry,
-        vertices,
-        present,
-        indices,
-    )
+    visit(target, shapes)
 }
 
-// The same pixels by number and mask, without a frame: how many there are, at most the window's limit, and those of the window in their slots.
-pub fn list_pixels(
-    pixels: &mut [u32],
-    masks: &mut [u8],
-    window: Window,
-    mode: RenderMode,
-    combiner: Combiner,
-    cull: bool,
-    scissor: Scissor,
-    width: u32,
-    height: u32,
-    geometry: Geometry,
-    vertices: &[f32],
-    present: &[u8],
-    indices: &[u32],
-) -> u64
-    requires ready { ReadyIn window 0 pixels masks }
-    requires sized { Sized scissor width height × Mixed combiner }
-    requires near { geometry ≡ Triangles → TrianglesNear vertices.now present.now indices.now }
-    ensures { ListedIn window (geometry_masks mode.antialias cull scissor width height vertices.now present.now indices.now geometry) 0 result pixels masks }
+// The same pixels by number and mask, without a frame: they are counted, and those that are asked for are in their slots.
+pub fn list_pixels(slots: &mut Slots, view: View, shapes: &Shapes)
+    ensures { let s = shapes.now in
+        ListedIn (geometry_masks s.mode.antialias s.cull view.scissor view.width view.height s.lists.vertices.now s.lists.present.now s.lists.indices.now s.geometry) slots.old slots.new }
 {
-    let mut colors = [0u8; 0];
-    let mut coverages = [0u8; 0];
-    let mut marks = [0u8; 0];
-    let walk = Walk {
-        draws: false,
-        window,
-        mode,
-        combiner,
-        width,
-        area: raster_pixel::scissor_area(scissor, width, height),
-    };
-    visit(
-        &mut colors,
-        &mut coverages,
-        &mut marks,
-        pixels,
-        masks,
-        walk,
-        cull,
-        geometry,
-        vertices,
-        present,
-        indices,
-    )
+    let mut listing = Listing { view, slots };
+    visit(&mut listing, shapes);
 }

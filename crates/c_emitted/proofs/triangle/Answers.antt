@@ -7,8 +7,6 @@ use Rattle.raster_admitted.specs.Check.{any}
 use Rattle.raster_admitted.proofs.Choices.{taken, passed}
 use Rattle.raster_pixel.specs.Near.{CornersNear}
 use Rattle.raster_pixel.proofs.Checked.{placed, sorted_near}
-use Rattle.rasterize_slow.specs.Shape.{TameIfSome}
-use Rattle.rasterize_slow.proofs.Shapes.{triangle_tame}
 use Rattle.rasterize_slow.proofs.Emitted.{optional_fragment, skipped_fragment}
 use Rattle.c_emitted.specs.Emitted.{emitted_triangle}
 use Rattle.c_emitted.proofs.triangle.Goals as goal
@@ -29,17 +27,11 @@ returns-in_err-shape c =
     let a = c.args in
     let none : c.from_residual.result ≡ None = search rules in
     passed _ _ _ (sym c.out_of_range.ensures ∙ c.if-out_of_range.false)
-    (none ∙ ap (optional_fragment a.antialias a.combiner a.y a.x) (sym (c.in_err-shape.was) ∙ c.triangle.ensures) ∙ skipped_fragment a.antialias a.combiner a.y a.x a.cull a.t.a a.t.b a.t.c)
-
-pub pixel-requires : goal.pixel-requires
-pixel-requires c =
-    let t = c.args.t in
-    let place = sym c.out_of_range.ensures ∙ c.if-out_of_range.false in
-    (c.requires.0, c.requires.1, subst TameIfSome (sym c.triangle.ensures ∙ c.in_ok-shape.was) (triangle_tame c.args.cull t.a t.b t.c (near t place)))
+    (none ∙ ap (optional_fragment a.antialias a.combiner a.y a.x) (sym (c.in_err-shape.was) ∙ c.triangle.ensures.shape) ∙ skipped_fragment a.antialias a.combiner a.y a.x a.cull a.t)
 
 pub returns : goal.returns
 unfolding emitted_triangle
 returns c =
     let a = c.args in
     passed _ _ _ (sym c.out_of_range.ensures ∙ c.if-out_of_range.false)
-    (c.pixel.ensures ∙ ap (optional_fragment a.antialias a.combiner a.y a.x) (sym (c.in_ok-shape.was) ∙ c.triangle.ensures) ∙ skipped_fragment a.antialias a.combiner a.y a.x a.cull a.t.a a.t.b a.t.c)
+    (c.pixel.ensures ∙ ap (optional_fragment a.antialias a.combiner a.y a.x) (sym (c.in_ok-shape.was) ∙ c.triangle.ensures.shape) ∙ skipped_fragment a.antialias a.combiner a.y a.x a.cull a.t)

@@ -1,11 +1,50 @@
-use Rattle.std.proofs.Common.{arith}
-use Rattle.rasterize_slow.proofs.Sending.{sending_start, sending_more}
+use Rattle.std.proofs.Common.{refl, sym, ap, subst, arith, ◌<◌}
+use Rattle.raster_pixel.specs.declared.Area.{Area}
+use Rattle.raster_pixel.specs.declared.view.View.{View}
+use Rattle.raster_pixel.proofs.Inside.{bounded}
+use Rattle.rasterize_slow.specs.Shape.{walk_of, row_emits}
+use Rattle.rasterize_slow.proofs.Sending.{sent_as, sending_start, sending_more, sending_done, row_most, rows_most, area_same}
 use Rattle.rasterize_slow.proofs.visit_rows.Goals as goal
 
 pub loop-y-init : goal.loop-y-init
-loop-y-init c = record { from_top = omega arith; to_bottom = c.requires.shape.0.down; sent = sending_start _ _ c.requires.open }
+loop-y-init g c =
+    let u = g.S.Sink.view c.args.sink.now in
+    let top = ap (λ (a : Area). a.top) (area_same c.view.ensures c.area-area.ensures.value) in
+    let b = bounded u.scissor u.width u.height refl in
+    record { from_top = omega (arith, top); to_bottom = omega (arith, top, b.down); sent = sending_start _ _ (omega (arith, top)) (g.met.S.Sink.took_none c.args.shapes.now c.args.sink.now) }
+
+pub visit_row-n-requires-clause-row : goal.visit_row-n-requires-clause-row
+visit_row-n-requires-clause-row g c =
+    let u = g.S.Sink.view c.args.sink.now in
+    let b = bounded u.scissor u.width u.height (area_same c.view.ensures c.area-area.ensures.value) in
+    subst (λ (v : View). c.loop-y.y < v.height) (sym (g.met.S.Sink.same_view _ _ _ _ c.loop-y.invariant.sent.taken)) (omega (arith, b.bottom_in))
+
+pub overflow_add-n : goal.overflow_add-n
+overflow_add-n g c =
+    let d = c.args.shapes.now in
+    let u = g.S.Sink.view c.args.sink.now in
+    let b = bounded u.scissor u.width u.height refl in
+    let i = c.loop-y.invariant in
+    omega (
+      arith,
+      i.to_bottom,
+      b.bottom_in,
+      u.sized.height_small,
+      i.sent.count,
+      rows_most u d c.in-Some.shape (walk_of u d).area.top c.loop-y.y,
+      c.visit_row-n.ensures.sent.count,
+      row_most (g.S.Sink.view c.loop-y.sink) d c.in-Some.shape c.loop-y.y,
+    )
 
 pub loop-y-preserved : goal.loop-y-preserved
-loop-y-preserved c =
+loop-y-preserved g c =
+    let d = c.args.shapes.now in
     let i = c.loop-y.invariant in
-    record { from_top = omega arith; to_bottom = omega arith; sent = sending_more _ _ i.sent i.from_top c.visit_row-m.ensures.sent }
+    let same = g.met.S.Sink.same_view _ _ _ _ i.sent.taken in
+    let bottom = ap (λ (a : Area). a.bottom) (area_same c.view.ensures c.area-area.ensures.value) in
+    record {
+      from_top = omega (arith, i.from_top);
+      to_bottom = omega (arith, bottom);
+      sent = sending_more _ _ (g.met.S.Sink.took_then d) i.from_top i.sent
+          (sent_as (ap (λ (v : View). row_emits (walk_of v d) c.in-Some.shape c.loop-y.y) same) c.visit_row-n.ensures.sent);
+    }

@@ -1,17 +1,30 @@
-use Rattle.std.proofs.Common.{sym, ap, subst, arith}
+use Rattle.std.proofs.Common.{Option, ℕ, ap, arith, ◌∙◌}
+use Rattle.raster_pixel.specs.declared.view.View.{View}
 use Rattle.raster_pixel.specs.Admitted.{triangle_at}
-use Rattle.rasterize_slow.specs.Shape.{TameIfSome, shape_emits}
-use Rattle.rasterize_slow.proofs.Sending.{sent_as, sending_start, sending_more}
-use Rattle.rasterize_slow.proofs.Shapes.{three_tame}
+use Rattle.rasterize_slow.specs.declared.Shape.{Shape}
+use Rattle.rasterize_slow.specs.Shape.{walk_of, shape_emits, three_shape}
+use Rattle.rasterize_slow.proofs.Sending.{sent_as, sending_start, sending_more, shape_most, shapes_most}
 use Rattle.rasterize_slow.proofs.visit_triangles.Goals as goal
 
 pub loop-i-init : goal.loop-i-init
-loop-i-init c = sending_start _ 0 c.requires.open
+loop-i-init g c = sending_start _ 0 {i = 0} (omega arith) (g.met.S.Sink.took_none c.args.shapes.now c.args.sink.now)
 
-pub visit_rows-m-requires-clause-shape : goal.visit_rows-m-requires-clause-shape
-visit_rows-m-requires-clause-shape c =
-    let a = c.args in
-    (c.requires.near.0, subst TameIfSome (sym c.indexed-shape.ensures) (three_tame a.cull (triangle_at a.vertices.now a.present.now a.indices.now c.loop-i.i) (c.requires.near.1 c.loop-i.i c.loop-i-test.true)))
+pub overflow_add-n : goal.overflow_add-n
+overflow_add-n g c =
+    let d = c.args.shapes.now in
+    let l = d.lists in
+    omega (
+      arith,
+      d.few,
+      c.loop-i.invariant.count,
+      shapes_most (g.S.Sink.view c.args.sink.now) d (λ (i : ℕ). three_shape d.cull (triangle_at l.vertices.now l.present.now l.indices.now i)) 0 c.loop-i.i,
+      c.visit_rows-n.ensures.sent.count,
+      shape_most (g.S.Sink.view c.loop-i.sink) d c.indexed-shape.result,
+    )
 
 pub loop-i-preserved : goal.loop-i-preserved
-loop-i-preserved c = sending_more _ _ c.loop-i.invariant (omega arith) (sent_as (ap (shape_emits c.args.walk) c.indexed-shape.ensures) c.visit_rows-m.ensures.sent)
+loop-i-preserved g c =
+    let d = c.args.shapes.now in
+    let same = g.met.S.Sink.same_view _ _ _ _ c.loop-i.invariant.taken in
+    sending_more _ _ (g.met.S.Sink.took_then d) (omega arith) c.loop-i.invariant
+    (sent_as (ap (λ (v : View). shape_emits (walk_of v d) c.indexed-shape.result) same ∙ ap (shape_emits (walk_of (g.S.Sink.view c.args.sink.now) d)) c.indexed-shape.ensures.shape) c.visit_rows-n.ensures.sent)
