@@ -1,8 +1,9 @@
 // The C interface's structs for answers, and the library's answers as these.
 #![tactic(auto)]
 
-ghost use Rattle.std.specs.Prelude.{◌≡◌};
-ghost use Rattle.writeback_pixel.specs.Refusal.{accepted, turned_away};
+ghost use Rattle.std.specs.Prelude.{◌≡◌, ℕ, Result, Ok, Err, refl};
+ghost use Rattle.refused.specs.declared.Refusal.{Refusal};
+ghost use Rattle.writeback_pixel.specs.Refusal.{Outcome, accepted, turned_away};
 ghost use Rattle.writeback_pixel.specs.Calls.{destination_means, answer_means, blend_means, pack_color_means, encode_means};
 ghost use Rattle.combiner.specs.Means.{no_color, no_combiner, made_means, color_means, strict_means};
 ghost use Rattle.c_types.specs.Convert.{parts_of};
@@ -22,7 +23,9 @@ pub struct Answer {
     pub value: u32,
 }
 
-// A colour, if there is one, else zeros.
+// ---- what may be none, as C has no Option: a flag, and the value or zeros
+
+// A colour.
 #[repr(C)]
 #[derive(Clone, Copy)]
 pub struct ColorAnswer {
@@ -30,7 +33,7 @@ pub struct ColorAnswer {
     pub rgba: Rgba,
 }
 
-// A word, if there is one, else 0.
+// A word.
 #[repr(C)]
 #[derive(Clone, Copy)]
 pub struct StrictAnswer {
@@ -38,7 +41,7 @@ pub struct StrictAnswer {
     pub word: u16,
 }
 
-// A combiner, if there is one, else zeros.
+// A combiner.
 #[repr(C)]
 #[derive(Clone, Copy)]
 pub struct CombinerAnswer {
@@ -65,58 +68,96 @@ impl Answer {
 
 // ---- of single-pixel calls
 
-impl From<Result<bool, Refusal>> for Answer {
-    ghost from_gives = { λ told answer. answer ≡ answer_of bit (answer_means told) };
+// What a value is as one word, and what a call that gives one means. A refusal's number comes with a value whose word is 0.
+pub trait ToWord {
+    ghost word_of: { Self → ℕ };
 
-    fn from(told: Result<bool, Refusal>) -> Answer {
+    ghost means: { Result Self Refusal → Outcome Self };
+
+    fn to_word(self) -> u32
+        ensures { result ≡ word_of self };
+
+    ghost given: { (value : Self) → means (Ok value) ≡ accepted value };
+
+    ghost withheld: { (why : Refusal) → answer_of word_of (means (Err why)) ≡ answer_of same (turned_away why 0) };
+}
+
+impl ToWord for bool {
+    ghost word_of = { bit };
+
+    ghost means = { answer_means };
+
+    fn to_word(self) -> u32 {
+        self as u32 // 1 for yes
+    }
+
+    ghost given = { λ value. refl };
+
+    ghost withheld = { λ why. refl };
+}
+
+impl ToWord for u8 {
+    ghost word_of = { same };
+
+    ghost means = { destination_means };
+
+    fn to_word(self) -> u32 {
+        self as u32 // a coverage
+    }
+
+    ghost given = { λ value. refl };
+
+    ghost withheld = { λ why. refl };
+}
+
+impl ToWord for u16 {
+    ghost word_of = { same };
+
+    ghost means = { pack_color_means };
+
+    fn to_word(self) -> u32 {
+        self as u32 // a colour's word
+    }
+
+    ghost given = { λ value. refl };
+
+    ghost withheld = { λ why. refl };
+}
+
+impl ToWord for Rgba8 {
+    ghost word_of = { four_bytes };
+
+    ghost means = { blend_means };
+
+    fn to_word(self) -> u32 {
+        u32::from_le_bytes([self.r, self.g, self.b, self.a])
+    }
+
+    ghost given = { λ value. refl };
+
+    ghost withheld = { λ why. refl };
+}
+
+impl ToWord for Bytes2 {
+    ghost word_of = { two_bytes };
+
+    ghost means = { encode_means };
+
+    fn to_word(self) -> u32 {
+        u16::from_le_bytes([self.0, self.1]) as u32
+    }
+
+    ghost given = { λ value. refl };
+
+    ghost withheld = { λ why. refl };
+}
+
+impl<T: ToWord> From<Result<T, Refusal>> for Answer {
+    ghost from_gives = { λ told answer. answer ≡ answer_of T.word_of (T.means told) };
+
+    fn from(told: Result<T, Refusal>) -> Answer {
         match told {
-            Ok(yes) => Answer::accepted(yes as u32),
-            Err(why) => Answer::turned_away(why),
-        }
-    }
-}
-
-// A coverage.
-impl From<Result<u8, Refusal>> for Answer {
-    ghost from_gives = { λ coverage answer. answer ≡ answer_of same (destination_means coverage) };
-
-    fn from(coverage: Result<u8, Refusal>) -> Answer {
-        match coverage {
-            Ok(coverage) => Answer::accepted(coverage as u32),
-            Err(why) => Answer::turned_away(why),
-        }
-    }
-}
-
-// A colour's word.
-impl From<Result<u16, Refusal>> for Answer {
-    ghost from_gives = { λ word answer. answer ≡ answer_of same (pack_color_means word) };
-
-    fn from(word: Result<u16, Refusal>) -> Answer {
-        match word {
-            Ok(word) => Answer::accepted(word as u32),
-            Err(why) => Answer::turned_away(why),
-        }
-    }
-}
-
-impl From<Result<Rgba8, Refusal>> for Answer {
-    ghost from_gives = { λ color answer. answer ≡ answer_of four_bytes (blend_means color) };
-
-    fn from(color: Result<Rgba8, Refusal>) -> Answer {
-        match color {
-            Ok(c) => Answer::accepted(u32::from_le_bytes([c.r, c.g, c.b, c.a])),
-            Err(why) => Answer::turned_away(why),
-        }
-    }
-}
-
-impl From<Result<Bytes2, Refusal>> for Answer {
-    ghost from_gives = { λ bytes answer. answer ≡ answer_of two_bytes (encode_means bytes) };
-
-    fn from(bytes: Result<Bytes2, Refusal>) -> Answer {
-        match bytes {
-            Ok(bytes) => Answer::accepted(u16::from_le_bytes([bytes.0, bytes.1]) as u32),
+            Ok(value) => Answer::accepted(value.to_word()),
             Err(why) => Answer::turned_away(why),
         }
     }

@@ -69,6 +69,7 @@ pub fn supported(fmt: u8, siz: u8, width: u32, depth: bool) -> Answer
     writeback_pixel::supported(image_writer(fmt, siz, width, depth)).into()
 }
 
+// A size is a usize, which has no word of its own: this one fits, since it is at most 4.
 #[tactic(auto, using(crate::proofs::Sizes::size_small))]
 pub fn pixel_bytes(fmt: u8, siz: u8, width: u32, depth: bool) -> Answer
     ensures { result ≡ answer_of same (pixel_bytes_call (writer_of fmt siz width depth)) }

@@ -10,8 +10,8 @@ use combiner_inputs::{AlphaIn, ColorIn, CombinerSelectors, CycleSel};
 use state::{AlphaCompare, BlendClass, RenderMode, Rgba, Rgba8, ZMode};
 use words_pack::{FramebufferEncoding, ImageLayout, Writer};
 
-// RenderMode, its enums by their numbers in the order of their declarations. A number that an enum lacks stands for its last case: a class above 3 is
-// DualSrc, a z mode above 3 Decal, an alpha_compare above 2 Dither.
+// RenderMode, its enums by their numbers in the order of their declarations: C may pass any number where an enum stands. One that an enum lacks stands for
+// its last case: a class above 3 is DualSrc, a z mode above 3 Decal, an alpha_compare above 2 Dither.
 #[repr(C)]
 #[derive(Clone, Copy)]
 pub struct Mode {
@@ -162,31 +162,31 @@ pub fn alpha_number(alpha: AlphaIn) -> u8
 
 #[tactic(auto, unfolding(crate::specs::Convert::mode_of))]
 impl From<Mode> for RenderMode {
-    ghost from_gives = { λ m r. r ≡ mode_of m };
+    ghost from_gives = { λ mode made. made ≡ mode_of mode };
 
-    fn from(m: Mode) -> RenderMode {
+    fn from(mode: Mode) -> RenderMode {
         RenderMode {
-            cycle_type: m.cycle_type,
-            rgb_dither: m.rgb_dither,
-            alpha_dither: m.alpha_dither,
-            key_enabled: m.key_enabled,
-            cvg_dst: m.cvg_dst,
-            image_read: m.image_read,
-            antialias: m.antialias,
-            alpha_cvg_select: m.alpha_cvg_select,
-            color_on_coverage: m.color_on_coverage,
-            blender_mux: m.blender_mux,
-            force_blend: m.force_blend,
-            blend_class: blend_class(m.blend_class),
-            fallback_class: blend_class(m.fallback_class),
-            non_canonical_blend: m.non_canonical_blend,
-            z_source_prim: m.z_source_prim,
-            z_test: m.z_test,
-            z_write: m.z_write,
-            z_mode: z_mode(m.z_mode),
-            fog: m.fog,
-            alpha_compare: alpha_compare(m.alpha_compare),
-            cvg_x_alpha: m.cvg_x_alpha,
+            cycle_type: mode.cycle_type,
+            rgb_dither: mode.rgb_dither,
+            alpha_dither: mode.alpha_dither,
+            key_enabled: mode.key_enabled,
+            cvg_dst: mode.cvg_dst,
+            image_read: mode.image_read,
+            antialias: mode.antialias,
+            alpha_cvg_select: mode.alpha_cvg_select,
+            color_on_coverage: mode.color_on_coverage,
+            blender_mux: mode.blender_mux,
+            force_blend: mode.force_blend,
+            blend_class: blend_class(mode.blend_class),
+            fallback_class: blend_class(mode.fallback_class),
+            non_canonical_blend: mode.non_canonical_blend,
+            z_source_prim: mode.z_source_prim,
+            z_test: mode.z_test,
+            z_write: mode.z_write,
+            z_mode: z_mode(mode.z_mode),
+            fog: mode.fog,
+            alpha_compare: alpha_compare(mode.alpha_compare),
+            cvg_x_alpha: mode.cvg_x_alpha,
         }
     }
 }
@@ -208,63 +208,63 @@ fn cycle(numbers: [u8; 8]) -> CycleSel
 }
 
 #[tactic(auto, unfolding(crate::specs::Convert::numbers_of))]
-fn numbers(s: CycleSel) -> [u8; 8]
-    ensures { result ≡ numbers_of s }
+fn numbers(cycle: CycleSel) -> [u8; 8]
+    ensures { result ≡ numbers_of cycle }
 {
     [
-        color_number(s.ca),
-        color_number(s.cb),
-        color_number(s.cc),
-        color_number(s.cd),
-        alpha_number(s.aa),
-        alpha_number(s.ab),
-        alpha_number(s.ac),
-        alpha_number(s.ad),
+        color_number(cycle.ca),
+        color_number(cycle.cb),
+        color_number(cycle.cc),
+        color_number(cycle.cd),
+        alpha_number(cycle.aa),
+        alpha_number(cycle.ab),
+        alpha_number(cycle.ac),
+        alpha_number(cycle.ad),
     ]
 }
 
 #[tactic(auto, unfolding(crate::specs::Convert::combiner_from))]
 impl From<Parts> for Combiner {
-    ghost from_gives = { λ p k. k ≡ combiner_from p };
+    ghost from_gives = { λ parts made. made ≡ combiner_from parts };
 
-    fn from(p: Parts) -> Combiner {
+    fn from(parts: Parts) -> Combiner {
         Combiner {
-            selectors: cycle(p.selectors),
-            prim: p.prim,
-            env: p.env,
-            blend: p.blend,
-            fog: p.fog,
-            lod: p.lod,
+            selectors: cycle(parts.selectors),
+            prim: parts.prim,
+            env: parts.env,
+            blend: parts.blend,
+            fog: parts.fog,
+            lod: parts.lod,
         }
     }
 }
 
 #[tactic(auto, unfolding(crate::specs::Convert::parts_of))]
 impl From<Combiner> for Parts {
-    ghost from_gives = { λ k p. p ≡ parts_of k };
+    ghost from_gives = { λ combiner made. made ≡ parts_of combiner };
 
-    fn from(k: Combiner) -> Parts {
+    fn from(combiner: Combiner) -> Parts {
         Parts {
-            selectors: numbers(k.selectors),
-            prim: k.prim,
-            env: k.env,
-            blend: k.blend,
-            fog: k.fog,
-            lod: k.lod,
+            selectors: numbers(combiner.selectors),
+            prim: combiner.prim,
+            env: combiner.env,
+            blend: combiner.blend,
+            fog: combiner.fog,
+            lod: combiner.lod,
         }
     }
 }
 
 #[tactic(auto, unfolding(crate::specs::Convert::selectors_of))]
 impl From<CombinerSelectors> for Selectors {
-    ghost from_gives = { λ s n. n ≡ selectors_of s };
+    ghost from_gives = { λ selectors made. made ≡ selectors_of selectors };
 
-    fn from(s: CombinerSelectors) -> Selectors {
+    fn from(selectors: CombinerSelectors) -> Selectors {
         Selectors {
-            raw_l: s.raw_l,
-            raw_h: s.raw_h,
-            cyc0: numbers(s.cyc0),
-            cyc1: numbers(s.cyc1),
+            raw_l: selectors.raw_l,
+            raw_h: selectors.raw_h,
+            cyc0: numbers(selectors.cyc0),
+            cyc1: numbers(selectors.cyc1),
         }
     }
 }

@@ -35,10 +35,7 @@ fn coverage_ok(coverage: u8) -> bool
 fn known_ok(coverage: Coverage) -> bool
     ensures { result ≡ known_ok coverage }
 {
-    match coverage {
-        None => true,
-        Some(c) => coverage_ok(c),
-    }
+    coverage.is_none_or(coverage_ok)
 }
 
 fn siz_ok(siz: u8) -> bool
