@@ -11,8 +11,7 @@ use Rattle.raster_vertex.specs.declared.row.ShadeRow.{ShadeRow}
 use Rattle.raster_pixel.specs.declared.Fragment.{Fragment}
 use Rattle.raster_pixel.specs.Emitted.{shown, emits}
 use Rattle.raster_pixel.specs.Parts.{from}
-use Rattle.raster_pixel.specs.Row.{Fulls}
-use Rattle.raster_range.specs.declared.Range.{Range}
+use Rattle.raster_pixel.specs.declared.row.Row.{Row}
 use Rattle.raster_pixel.proofs.Parts.{parts_bound, from_one, from_same, from_shift}
 use Rattle.frame_paint.specs.declared.Target.{Target}
 use Rattle.frame_paint.specs.declared.prepare.Paint.{Paint}
@@ -43,18 +42,18 @@ full_row paint x p es em =
     ((λ i. emits (fragment_of paint (es i) (em i) x) p)
     ∙ (λ i. emits (cond (full_shown paint.mode.antialias i) (Some (painted paint None 255 x)) None) p))
 
-module _ (paint : Paint) (shades : Option ShadeRow) (e : Edges) (y : ℕ) {full : Range} {x next : ℕ} (fulls : Fulls e full) (runs : Runs paint shades full x next) (h : x + 1 < next) where
-  run_row : (w : ℕ) → from (full_pixel paint.color) (y * w + x) (y * w + next) ≡ from (row_at paint shades e w y) x next
+module _ (paint : Paint) (shades : Option ShadeRow) (row : Row) (y : ℕ) {x next : ℕ} (runs : Runs paint shades row.full x next) (h : x + 1 < next) where
+  run_row : (w : ℕ) → from (full_pixel paint.color) (y * w + x) (y * w + next) ≡ from (row_at paint shades row.edges w y) x next
   run_row w =
       let r = runs h in
       sym (from_shift (full_pixel paint.color) (y * w) x next)
-      ∙ from_same (λ i. full_pixel paint.color (y * w + i)) (row_at paint shades e w y) x next
-      (λ i p q. full_row paint i (y * w + i) r.0 (fulls i (omega (arith, r.2)) (omega (arith, r.3))))
+      ∙ from_same (λ i. full_pixel paint.color (y * w + i)) (row_at paint shades row.edges w y) x next
+      (λ i p q. full_row paint i (y * w + i) r.0 (row.fulls i (omega (arith, r.2)) (omega (arith, r.3))))
 
   pub run_drawn :
       {n : ℕ} {t u : Target}
       → (let p = y * t.view.width in Drew paint.mode paint.combiner n (from (full_pixel paint.color) (p + x) (p + next)) (seen t) (seen u) (p + next - (p + x)))
-      → SameLoans t u → DrewOn paint.mode paint.combiner (from (row_at paint shades e t.view.width y) x next) t u (next - x)
+      → SameLoans t u → DrewOn paint.mode paint.combiner (from (row_at paint shades row.edges t.view.width y) x next) t u (next - x)
   run_drawn {t = t} d same = drew_count (omega arith) (drew_as (run_row t.view.width) (record { ran = d.ran; same = same }))
 
 -- a part of one pixel

@@ -2,7 +2,6 @@
 ghost use Rattle.std.specs.Prelude.{◌≡◌, ◌+◌, ◌*◌, ◌<◌, ◌≤◌, IfSome};
 ghost use Rattle.raster_pixel.specs.Parts.{from};
 ghost use Rattle.raster_pixel.specs.Emitted.{emits};
-ghost use Rattle.raster_pixel.specs.Row.{Fulls};
 ghost use Rattle.frame_paint.specs.Pixel.{DrewOn};
 ghost use Rattle.frame_paint.specs.Row.{fragment_of, row_at, Runs};
 
@@ -12,7 +11,7 @@ use crate::pixels::draw_pixel;
 use crate::prepare::Paint;
 use raster_edges::Edges;
 use raster_pixel::Fragment;
-use raster_range::Range;
+use raster_pixel::row::Row;
 use raster_vertex::row::ShadeRow;
 
 // What pixel x emits that has these samples: in the colour of its shade; or, without shades, in the paint's own, with 1.0 for the shade's alpha.
@@ -64,15 +63,14 @@ fn draw_part(
     target: &mut Target,
     paint: &Paint,
     shades: Option<ShadeRow>,
-    edges: Edges,
-    full: Range,
+    row: &Row,
     y: u32,
     x: u32,
     next: u32,
 ) -> u64
-    requires x_lt_next { (x < next) × Fulls edges full × Runs paint.now shades full x next }
+    requires x_lt_next { (x < next) × Runs paint.now shades row.now.full x next }
     requires there { (y < target.old.view.height) × (next ≤ target.old.view.width) }
-    ensures { DrewOn paint.now.mode paint.now.combiner (from (row_at paint.now shades edges target.old.view.width y) x next) target.old target.new result }
+    ensures { DrewOn paint.now.mode paint.now.combiner (from (row_at paint.now shades row.now.edges target.old.view.width y) x next) target.old target.new result }
 {
     if x + 1 < next {
         let base = y * target.view.width;
@@ -86,7 +84,7 @@ fn draw_part(
         );
         return (next - x) as u64;
     }
-    let mask = raster_pixel::row::samples(edges, full, x);
+    let mask = row.samples(x);
     row_pixel(target, paint, shades, mask, y, x)
 }
 
@@ -104,14 +102,14 @@ pub fn draw_row(
     requires there { (y < target.old.view.height) × (end ≤ target.old.view.width) }
     ensures { DrewOn paint.now.mode paint.now.combiner (from (row_at paint.now shades edges target.old.view.width y) start end) target.old target.new result }
 {
-    let full = raster_edges::full(edges, start, end);
+    let row = Row::new(edges, start, end);
     let runs = shades.is_none() & paint.even;
     let mut n: u64 = 0;
     let mut x = start;
     // A step is a pixel or a run of them: no range has such steps.
     while x < end {
-        let next = raster_pixel::row::part_end(runs, full, x, end);
-        n += draw_part(target, paint, shades, edges, full, y, x, next);
+        let next = row.part_end(runs, x, end);
+        n += draw_part(target, paint, shades, &row, y, x, next);
         x = next;
     }
     n

@@ -15,7 +15,7 @@ use Rattle.raster_edges.specs.Sample.{mask_of}
 use Rattle.raster_edges.specs.Span.{edges_of}
 use Rattle.raster_pixel.specs.Emitted.{shown}
 use Rattle.raster_pixel.specs.Parts.{from}
-use Rattle.raster_pixel.specs.Row.{Fulls}
+use Rattle.raster_pixel.specs.declared.row.Row.{Row}
 use Rattle.raster_pixel.proofs.Kept.{kept_all}
 use Rattle.raster_pixel.proofs.Parts.{from_empty, from_same, from_shift}
 use Rattle.raster_emitted.specs.Masked.{Masked}
@@ -40,37 +40,38 @@ unseen antialias mask p e = λ i. pixel_masks antialias (e i) p
 
 -- ---- a part of a row: one pixel, or pixels that all have all their samples
 module _
-    (antialias : Bool) (e : Edges) (full : Range) (w y : ℕ) {x next m : ℕ} (em : m ≡ mask_of e x) (h : x < next) (f : Fulls e full)
-    (r : x + 1 < next → (full.start ≤ x) × (next ≤ full.end)) where
-  one_mask : (j : ℕ) → x ≤ j → j < next → mask_of e j ≡ m
+    (antialias : Bool) (row : Row) (w y : ℕ) {x next m : ℕ} (em : m ≡ mask_of row.edges x) (h : x < next)
+    (r : x + 1 < next → (row.full.start ≤ x) × (next ≤ row.full.end)) where
+  one_mask : (j : ℕ) → x ≤ j → j < next → mask_of row.edges j ≡ m
   one_mask j a b = go (dec_lt (x + 1) next)
     where
-      go : Dec (x + 1 < next) → mask_of e j ≡ m
-      go (yes l) = let k = r l in f j (omega (arith, k.0)) (omega (arith, k.1)) ∙ sym (f x k.0 (omega (arith, k.1))) ∙ sym em
+      go : Dec (x + 1 < next) → mask_of row.edges j ≡ m
+      go (yes l) = let k = r l in row.fulls j (omega (arith, k.0)) (omega (arith, k.1)) ∙ sym (row.fulls x k.0 (omega (arith, k.1))) ∙ sym em
       go (no l) =
           let q : j ≡ x = omega arith in
-          ap (mask_of e) q ∙ sym em
+          ap (mask_of row.edges) q ∙ sym em
 
-  pub part_none : shown antialias m ≡ false → from (row_masks antialias e w y) x next ≡ []
+  pub part_none : shown antialias m ≡ false → from (row_masks antialias row.edges w y) x next ≡ []
   part_none s =
-      from_empty (row_masks antialias e w y) x next (λ j a b.
-      missed antialias (mask_of e j) (y * w + j) (ap (shown antialias) (one_mask j a b) ∙ s))
+      from_empty (row_masks antialias row.edges w y) x next (λ j a b.
+      missed antialias (mask_of row.edges j) (y * w + j) (ap (shown antialias) (one_mask j a b) ∙ s))
 
-  pub part_run : shown antialias m ≡ true → run_masks m (y * w + x) (y * w + x + (next - x)) ≡ from (row_masks antialias e w y) x next
+  pub part_run : shown antialias m ≡ true → run_masks m (y * w + x) (y * w + x + (next - x)) ≡ from (row_masks antialias row.edges w y) x next
   part_run s =
       let spot : ℕ → List Masked = λ p. record { pixel = p; mask = m } ∷ [] in
       let end : y * w + x + (next - x) ≡ y * w + next = omega arith in
       ap (from spot (y * w + x)) end
       ∙ sym (from_shift spot (y * w) x next)
-      ∙ sym (from_same (row_masks antialias e w y) (λ (i : ℕ). spot (y * w + i)) x next (λ j a b.
+      ∙ sym (from_same (row_masks antialias row.edges w y) (λ (i : ℕ). spot (y * w + i)) x next (λ j a b.
       (λ i. pixel_masks antialias (one_mask j a b i) (y * w + j)) ∙ hit antialias m (y * w + j) s))
 
 -- ---- a row, and the rows
 pub row_kept :
-    (antialias : Bool) (t : Tri) (w l r y : ℕ) {e : Edges} {k : Range} → e ≡ edges_of t y → Kept (no_sample e) l r k
-    → from (row_masks antialias e w y) k.start k.end ≡ line_masks antialias t w l r y
-row_kept antialias t w l r y {e} ee kept =
-    sym (kept_all (row_masks antialias e w y) (no_sample e) (λ x z. unseen antialias (mask_of e x) (y * w + x) z) kept)
+    (antialias : Bool) (t : Tri) (w l r y : ℕ) {e f : Edges} {k : Range} → f ≡ e → e ≡ edges_of t y → Kept (no_sample e) l r k
+    → from (row_masks antialias f w y) k.start k.end ≡ line_masks antialias t w l r y
+row_kept antialias t w l r y {e} {k = k} ef ee kept =
+    (λ i. from (row_masks antialias (ef i) w y) k.start k.end)
+    ∙ sym (kept_all (row_masks antialias e w y) (no_sample e) (λ x z. unseen antialias (mask_of e x) (y * w + x) z) kept)
     ∙ (λ i. from (row_masks antialias (ee i) w y) l r)
 
 pub rows_kept :

@@ -2,52 +2,50 @@
 ghost use Rattle.std.specs.Prelude.{◌≡◌, ◌+◌, ◌<◌, ◌≤◌};
 ghost use Rattle.raster_edges.specs.Limits.{TameTri};
 ghost use Rattle.raster_pixel.specs.Parts.{from};
-ghost use Rattle.raster_pixel.specs.Row.{Fulls};
 ghost use Rattle.raster_emitted.specs.Shapes.{row_masks, shape_masks};
 ghost use Rattle.raster_emitted.specs.Listed.{ListedIn};
 
 use crate::slots::Slots;
-use raster_edges::{Edges, Tri};
+use raster_edges::Tri;
 use raster_pixel::View;
-use raster_range::Range;
+use raster_pixel::row::Row;
 
-// A row of a shape in a frame of this width: its pixels lie between the edges.
+// Row y of a frame of this width, as far as a shape goes.
 #[derive(Clone, Copy)]
-struct Row {
+struct Line {
     antialias: bool,
-    edges: Edges,
+    row: Row,
     width: u32,
     y: u32,
     ghost small: { (width ≤ 1024) × (y < 1024) },
 }
 
 // Pixel x, or the run from x up to next.
-fn list_part(slots: &mut Slots, row: &Row, full: Range, x: u32, next: u32)
-    requires inside { (x < next) × (next ≤ row.now.width) }
-    requires full { Fulls row.now.edges full × ((x + 1 < next → (full.start ≤ x) × (next ≤ full.end))) }
-    ensures { ListedIn (from (row_masks row.now.antialias row.now.edges row.now.width row.now.y) x next) slots.old slots.new }
+fn list_part(slots: &mut Slots, line: &Line, x: u32, next: u32)
+    requires inside { (x < next) × (next ≤ line.now.width) }
+    requires run { x + 1 < next → (line.now.row.full.start ≤ x) × (next ≤ line.now.row.full.end) }
+    ensures { ListedIn (from (row_masks line.now.antialias line.now.row.edges line.now.width line.now.y) x next) slots.old slots.new }
 {
-    let mask = raster_pixel::row::samples(row.edges, full, x);
-    if raster_pixel::is_shown(row.antialias, mask) {
-        let pixel = row.y * row.width + x;
+    let mask = line.row.samples(x);
+    if raster_pixel::is_shown(line.antialias, mask) {
+        let pixel = line.y * line.width + x;
         slots.list_run(pixel, mask, next - x);
     }
 }
 
-// The pixels from kept.start up to kept.end.
-fn list_row(slots: &mut Slots, row: &Row, kept: Range)
-    requires inside { (kept.start ≤ kept.end) × (kept.end ≤ row.now.width) }
-    ensures { ListedIn (from (row_masks row.now.antialias row.now.edges row.now.width row.now.y) kept.start kept.end) slots.old slots.new }
+// The pixels from start up to end.
+fn list_row(slots: &mut Slots, line: &Line, start: u32, end: u32)
+    requires inside { (start ≤ end) × (end ≤ line.now.width) × (line.now.row.full.end ≤ end) }
+    ensures { ListedIn (from (row_masks line.now.antialias line.now.row.edges line.now.width line.now.y) start end) slots.old slots.new }
 {
-    let full = raster_edges::full(row.edges, kept.start, kept.end);
-    let mut x = kept.start;
+    let mut x = start;
     // A step is a pixel or a run of them: no range has such steps.
-    while x < kept.end {
+    while x < end {
         if slots.count == slots.limit {
             return;
         }
-        let next = raster_pixel::row::part_end(true, full, x, kept.end);
-        list_part(slots, row, full, x, next);
+        let next = line.row.part_end(true, x, end);
+        list_part(slots, line, x, next);
         x = next;
     }
 }
@@ -63,13 +61,14 @@ pub fn list_shape(slots: &mut Slots, view: View, antialias: bool, t: Tri)
         if slots.count == slots.limit {
             return;
         }
-        let row = Row {
+        let edges = raster_edges::edges_at(t, y);
+        let kept = raster_edges::bounds(edges, area.left, area.right);
+        let line = Line {
             antialias,
-            edges: raster_edges::edges_at(t, y),
+            row: Row::new(edges, kept.start, kept.end),
             width: view.width,
             y,
         };
-        let kept = raster_edges::bounds(row.edges, area.left, area.right);
-        list_row(slots, &row, kept);
+        list_row(slots, &line, kept.start, kept.end);
     }
 }

@@ -6,14 +6,10 @@ use Rattle.raster_emitted.proofs.rows.list_part.Goals as goal
 
 pub returns-then-is_shown : goal.returns-then-is_shown
 returns-then-is_shown c =
-    let r = c.args.row.now in
-    listed_as
-    (part_run r.antialias r.edges c.args.full r.width r.y c.samples-mask.ensures c.requires.inside.0 c.requires.full.0 c.requires.full.1 (sym c.is_shown.ensures ∙ c.if-is_shown.true))
-    c.list_run.ensures
+    let l = c.args.line.now in
+    listed_as (part_run l.antialias l.row l.width l.y c.samples-mask.ensures c.requires.inside.0 c.requires.run (sym c.is_shown.ensures ∙ c.if-is_shown.true)) c.list_run.ensures
 
 pub returns-else-is_shown : goal.returns-else-is_shown
 returns-else-is_shown c =
-    let r = c.args.row.now in
-    listed_as
-    (sym (part_none r.antialias r.edges c.args.full r.width r.y c.samples-mask.ensures c.requires.inside.0 c.requires.full.0 c.requires.full.1 (sym c.is_shown.ensures ∙ c.if-is_shown.false)))
-    (listed_none c.args.slots.now)
+    let l = c.args.line.now in
+    listed_as (sym (part_none l.antialias l.row l.width l.y c.samples-mask.ensures c.requires.inside.0 c.requires.run (sym c.is_shown.ensures ∙ c.if-is_shown.false))) (listed_none c.args.slots.now)

@@ -7,8 +7,8 @@ use Rattle.raster_emitted.proofs.rows.list_row.Given as goal
 
 abbrev pub invariant-loop-x : goal.invariant-loop-x
 invariant-loop-x l =
-    (l.kept.start ≤ l.x) × (l.x ≤ l.kept.end)
-    × ListedIn (from (row_masks l.row.antialias l.row.edges l.row.width l.row.y) l.kept.start l.x) l.fn.slots l.slots
+    (l.start ≤ l.x) × (l.x ≤ l.end)
+    × ListedIn (from (row_masks l.line.antialias l.line.row.edges l.line.width l.line.y) l.start l.x) l.fn.slots l.slots
 
 abbrev pub decreases-loop-x : goal.decreases-loop-x
-decreases-loop-x l = l.kept.end - l.x
+decreases-loop-x l = l.end - l.x

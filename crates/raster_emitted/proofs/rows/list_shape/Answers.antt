@@ -20,7 +20,7 @@ loop-y-preserved c =
     let a = c.args in
     let r = c.area-area.result in (
       omega (arith, c.loop-y-test.true),
-      listing_more _ _ c.loop-y.auto.y c.loop-y.invariant.1 (listed_as (row_kept a.antialias a.t a.view.width r.left r.right _ c.edges_at.ensures c.bounds-kept.ensures.kept) c.list_row.ensures),
+      listing_more _ _ c.loop-y.auto.y c.loop-y.invariant.1 (listed_as (row_kept a.antialias a.t a.view.width r.left r.right _ c.new.ensures.edges c.edges_at-edges.ensures c.bounds-kept.ensures.kept) c.list_row.ensures),
     )
 
 pub returns : goal.returns
