@@ -37,7 +37,6 @@ impl Target<'_> {
     }
 
     // Stores a pixel's mark, and its bytes where the mark says that they are known.
-    #[tactic(auto, using(crate::proofs::Steps::put_known_fit))]
     pub fn put_pixel(&mut self, pixel: usize, bytes: Pixel)
         requires pixel_in_bounds { pixel < self.old.view.width * self.old.view.height }
         requires mark_ok { mark_ok bytes.mark bytes.coverage ≡ true }

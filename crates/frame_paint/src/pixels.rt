@@ -4,7 +4,7 @@ ghost use Rattle.raster_pixel.specs.Emitted.{emits};
 ghost use Rattle.frame_paint.specs.Pixel.{DrewOn, fragment_source};
 
 use crate::Target;
-use crate::prepare::{Paint, coloring_of};
+use crate::prepare::Paint;
 use blender::Source;
 use raster_pixel::Fragment;
 
@@ -23,14 +23,13 @@ pub fn fragment_source(fragment: Fragment) -> Source
 }
 
 // F1 to F5 at a pixel's place. What is known ahead of it is asked after the bytes are read: so it goes through no memory.
-#[tactic(auto, using(crate::proofs::Fits::step_good, crate::proofs::Drawing::pixel_drawn))]
 pub fn draw_pixel(target: &mut Target, paint: &Paint, fragment: Fragment, pixel: usize)
     requires mask_nonzero { 0 < fragment.mask }
     requires pixel_in_bounds { pixel < target.old.view.width * target.old.view.height }
     ensures { DrewOn paint.now.mode paint.now.combiner (emits (Some fragment) pixel) target.old target.new 1 }
 {
     let before = target.known_pixel(pixel);
-    let coloring = coloring_of(paint, fragment.color);
+    let coloring = paint.coloring(fragment.color);
     let after = frame_pixel::step(
         paint.mode,
         paint.combiner,

@@ -1,11 +1,11 @@
 // What does not turn on the pixel is worked out once a draw: the combiner resolved, the colour that it gives for the shade 1.0, the bytes that every opaque pixel has unless P
 // is the pixel's colour, what full pixels of that colour need, whether that is enough for them, and whether a triangle's pixels all have it.
-ghost use Rattle.std.specs.Prelude.{◌≡◌, true, ◌||◌, unwrap_or};
+ghost use Rattle.std.specs.Prelude.{◌≡◌, true, ◌||◌};
 ghost use Rattle.state.specs.declared.Rgba.{Rgba};
 ghost use Rattle.combiner.specs.Combine.{color_of, full_shade};
 ghost use Rattle.combiner_resolved.specs.Resolved.{color_value, resolved_of, Mixed};
 ghost use Rattle.blender.specs.Layer.{steady_of};
-ghost use Rattle.frame_pixel.specs.Coloring.{colors_of, ColoringOf};
+ghost use Rattle.frame_pixel.specs.Coloring.{ColoringOf};
 ghost use Rattle.frame_pixel.specs.Full.{FullOf};
 ghost use Rattle.frame_paint.specs.Paint.{Own};
 
@@ -31,38 +31,26 @@ pub struct Paint {
     pub ghost colored: { color_of combiner full_shade ≡ color_value color },
     pub ghost owned: { Own mode combiner own },
     pub ghost filled: { FullOf mode combiner color full },
-    // what full pixels of the colour need is enough for them
+    // What full pixels of the colour need is enough for them.
     pub ghost enough: { even ≡ (full.layered || (steady_of mode || full.sure)) },
-    // every pixel of a triangle has the colour
+    // Every pixel of a triangle has the colour.
     pub ghost flattened: { flat ≡ true → (even ≡ true) × ((s : Rgba) → color_of combiner s ≡ color_value color) },
 }
 
-// The bytes of an opaque pixel's colour: those that all pixels have, else of this one, which are worked out only then.
-fn bytes_of(own: Option<Colors>, color: Rgba) -> Colors
-    ensures { result ≡ unwrap_or own (colors_of color) }
-{
-    match own {
-        Some(own) => own,
-        None => Colors {
-            red: num_float::byte_of(color.r),
-            green: num_float::byte_of(color.g),
-            blue: num_float::byte_of(color.b),
-        },
+impl Paint {
+    // What is known ahead of a pixel of this colour. The bytes of an opaque one are those that all pixels have, else its own, which are worked out only then.
+    #[tactic(auto, unfolding(frame_pixel::specs::Coloring::ColoringOf))]
+    pub fn coloring(&self, color: Rgba) -> Coloring
+        ensures { ColoringOf self.now.mode self.now.combiner color result }
+    {
+        if blender::opaque(self.mode, color.a) {
+            return Coloring::Opaque(self.own.unwrap_or_else(|| Colors::from(color)));
+        }
+        if layered(self.mode, color.a) {
+            return Coloring::Layered(layer_of(self.mode, self.combiner, color));
+        }
+        Coloring::Blended
     }
-}
-
-// What is known ahead of a pixel of this colour.
-#[tactic(auto, unfolding(frame_pixel::specs::Coloring::ColoringOf))]
-pub fn coloring_of(paint: &Paint, color: Rgba) -> Coloring
-    ensures { ColoringOf paint.now.mode paint.now.combiner color result }
-{
-    if blender::opaque(paint.mode, color.a) {
-        return Coloring::Opaque(bytes_of(paint.own, color));
-    }
-    if layered(paint.mode, color.a) {
-        return Coloring::Layered(layer_of(paint.mode, paint.combiner, color));
-    }
-    Coloring::Blended
 }
 
 pub fn prepare(mode: RenderMode, combiner: Combiner) -> Paint
