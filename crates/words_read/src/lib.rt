@@ -1,5 +1,4 @@
-// A word read from the lent frame: the word of one pixel, with numbers 1 to 3 and 8 to 10. A colour byte is loaded after number 10 let it through, a coverage only
-// where it is marked.
+// A word read from the lent frame: the word of one pixel, with numbers 1 to 3 and 8 to 10.
 #![tactic(auto)]
 
 ghost use Rattle.std.specs.Prelude.{◌≡◌};
@@ -51,20 +50,14 @@ fn read(frame: &Frame, pixel: usize, format: Format) -> Result<Bytes2, Refusal>
     if !words_pack::supported(writer) {
         return Err(Refusal::Writer);
     }
-    let color = frame.color(pixel).ok_or(Refusal::Unknown)?;
+    let color = Rgba8::from(frame.color(pixel).ok_or(Refusal::Unknown)?);
     let coverage = frame.coverage(pixel);
     if format.siz == 2 && coverage.is_none() {
         return Err(Refusal::Unknown);
     }
-    let rgba = Rgba8 {
-        r: color.red,
-        g: color.green,
-        b: color.blue,
-        a: 0,
-    };
     let word = words_pack::encode(
         writer,
-        rgba,
+        color,
         coverage.unwrap_or(0),
         pixel,
         None,

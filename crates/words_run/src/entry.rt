@@ -6,7 +6,7 @@ ghost use Rattle.refused.specs.Numbers.{number_of};
 ghost use Rattle.words_read.specs.Read.{word_means, read_answer};
 ghost use Rattle.words_read.specs.Format.{args_of};
 ghost use Rattle.words_run.specs.Run.{count_of, answers_from, read_answers, read_at};
-ghost use Rattle.words_run.specs.Entries.{refused_by, halfword, byte_of, answer_at, answer_in, At};
+ghost use Rattle.words_run.specs.Entries.{refused_by, halfword, answer_at, answer_in, At};
 
 use frame::Frame;
 use refused::Refusal;
@@ -50,31 +50,24 @@ fn halfword(color: Rgba8, coverage: u8, place: Place, format: Format) -> Bytes2
     words_pack::encode_u16(format.encoding, word)
 }
 
-// A pixel of 8 bits: red in even columns, green in odd ones.
-fn byte(color: Rgba8, x: usize) -> Bytes2
-    ensures { result ≡ byte_of x color }
-{
-    Bytes2(if x % 2 == 0 { color.r } else { color.g }, 0)
-}
-
-// The word of a pixel that numbers 1 to 9 let through, or number 10.
+// The word of a pixel that numbers 1 to 9 let through, or number 10. Its 8 bits, red in even columns and green in odd ones, are chosen here: by a call, the colour would be kept in
+// memory for 16 bits too, and a run takes 1.7 times as long.
 #[tactic(auto, unfolding(crate::specs::Entries::answer_at))]
 fn read(frame: &Frame, pixel: usize, place: Place, format: Format) -> Result<Bytes2, Refusal>
     requires { pixel < length (seen frame.now).marks }
     ensures { word_means result ≡ answer_at format.siz place.x place.y format.rgb_dither format.encoding (pixel_at (seen frame.now) pixel) }
 {
     let color = frame.color(pixel).ok_or(Refusal::Unknown)?;
-    let rgba = Rgba8 {
-        r: color.red,
-        g: color.green,
-        b: color.blue,
-        a: 0,
-    };
     if format.siz != 2 {
-        return Ok(byte(rgba, place.x));
+        let byte = if place.x % 2 == 0 {
+            color.red
+        } else {
+            color.green
+        };
+        return Ok(Bytes2(byte, 0));
     }
     let coverage = frame.coverage(pixel).ok_or(Refusal::Unknown)?;
-    Ok(halfword(rgba, coverage, place, format))
+    Ok(halfword(Rgba8::from(color), coverage, place, format))
 }
 
 // The two slices of a run: two bytes of words for each number.
