@@ -7,3 +7,4 @@ pub mod Admitted
 pub mod Emitted
 pub mod Near
 pub mod SetUp
+pub mod Draw

@@ -1,6 +1,6 @@
 -- Lists of which each does the same to every state, and which are as long as each other, may stand for each other in a draw: for two whose parts do so, one after the
 -- other, it holds of the whole. Assumes nothing.
-use mathlib.Core.Path.{◌≡◌, refl, sym, ap, ◌∙◌}
+use mathlib.Core.Path.{◌≡◌, refl, ap, ◌∙◌}
 use mathlib.Core.List.{List, ◌++◌, foldl, foldl-append}
 use Prim.Native.Nat.{ℕ, zero, suc, ◌+◌, ◌-◌, ◌≤◌, ◌<◌}
 use native.Mathlib.Omega.{arith}
@@ -23,14 +23,10 @@ module _ {S E : Type 0} {step : S → E → S} where
   same_as e = record { state = λ s. ap (foldl step s) e; count = ap length e }
 
   same_then : {xs ys ds es : List E} → Same step xs ys → Same step ds es → Same step (xs ++ ds) (ys ++ es)
-  same_then {xs} {ys} {ds} {es} p q =
+  same_then {xs} {ys} p q =
       record {
-        state = λ s.
-            foldl-append step s xs ds
-            ∙ ap (λ (x : S). foldl step x ds) (p.state s)
-            ∙ q.state (foldl step s ys)
-            ∙ sym (foldl-append step s ys es);
-        count = omega (arith, p.count, q.count, length-append xs ds, length-append ys es);
+        state = λ s. simp (foldl-append, p.state s) (q.state (foldl step s ys));
+        count = simp length-append (omega (arith, p.count, q.count));
       }
 
   same_from : {c d : ℕ → List E} (n i : ℕ) → ((j : ℕ) → i ≤ j → j < i + n → Same step (c j) (d j)) → Same step (parts c n i) (parts d n i)

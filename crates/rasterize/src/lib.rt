@@ -2,7 +2,8 @@
 // many pixels that emitted.
 #![tactic(auto)]
 
-ghost use Rattle.raster_pixel.specs.Emitted.{rectangle_emits, geometry_emits};
+ghost use Rattle.raster_pixel.specs.Draw.{emitted_as};
+ghost use Rattle.raster_pixel.specs.Emitted.{rectangle_emits};
 ghost use Rattle.frame_paint.specs.Pixel.{DrewOn};
 
 use crate::rows::draw_shape;
@@ -23,12 +24,9 @@ fn draw_rectangle(target: &mut Target, paint: &Paint, sides: Sides) -> u64
     draw_shape(target, paint, None, raster_rectangle::outline(sides))
 }
 
-// The pixels of an accepted draw, and their count.
+// The pixels of an accepted draw, and their count. The paint is lent all the way down, so that nothing copies it.
 pub fn rasterize(target: &mut Target, shapes: &Shapes) -> u64
-    ensures drew { let view = target.old.view in
-        let lists = shapes.now.lists in
-        let emitted = geometry_emits shapes.now.mode shapes.now.combiner shapes.now.cull view.scissor view.width view.height lists.vertices.now lists.present.now lists.indices.now shapes.now.geometry in
-        DrewOn shapes.now.mode shapes.now.combiner emitted target.old target.new result }
+    ensures drew { DrewOn shapes.now.mode shapes.now.combiner (emitted_as target.old.view shapes.now) target.old target.new result }
 {
     let paint = prepare(shapes.mode, shapes.combiner);
     match shapes.geometry {

@@ -22,7 +22,7 @@ fn shades_on(shading: Shading, y: u32) -> Option<ShadeRow>
     Some(raster_vertex::row::shade_row(shading?, y))
 }
 
-// The rows inside the scissor, each from left to right: only between its outermost edges, outside which no sample lies.
+// The rows inside the scissor, each from left to right: only between its outermost edges, outside which no sample lies. A row with no pixel there needs no shades.
 pub fn draw_shape(target: &mut Target, paint: &Paint, shading: Shading, shape: Tri) -> u64
     requires { TameTri shape }
     ensures { DrewOn paint.now.mode paint.now.combiner (shape_emits paint.now shading shape target.old.view) target.old target.new result }
