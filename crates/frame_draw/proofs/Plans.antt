@@ -1,16 +1,15 @@
--- Laws of a draw's plan: what the checks answer is the plan, an accepted one says that its pixels can be drawn, and answer and frame follow from it.
--- Assumes nothing.
-use mathlib.Core.Path.{◌≡◌, refl, sym, ap, subst, ◌∙◌}
+-- Laws of a draw's plan: what the checks answer is the plan, what they let through can be drawn, and answer and frame follow from the plan. Assumes nothing.
+use mathlib.Core.Path.{◌≡◌, refl, sym, ap, ap₂, ◌∙◌}
 use mathlib.Core.Bool.{Bool, true, false, cond, ◌&&◌}
 use mathlib.Core.List.{List}
 use Prim.Native.Nat.{ℕ, zero, suc, ◌*◌, ◌%◌, ◌≤◌}
-use native.Mathlib.Nat.{mul_comm}
 use native.Mathlib.Omega.{arith}
 use borrow.Author.Tests.{leb-true}
 use lib.Dec.{leb, eqb}
 use lib.Ieee.{Float}
 use lib.ListN.{length}
 use Rattle.num_float.proofs.Tests.{both_left, both_right}
+use Rattle.state.specs.declared.RenderMode.{RenderMode}
 use Rattle.combiner.specs.declared.Combiner.{Combiner}
 use Rattle.std.specs.Prelude.{Option, Some, None, Result, Ok, Err}
 use Rattle.std.specs.Option.{ok_or}
@@ -23,30 +22,28 @@ use Rattle.combiner.specs.New.{new_of}
 use Rattle.raster_pixel.specs.declared.Scissor.{Scissor}
 use Rattle.raster_pixel.specs.Admitted.{admitted_of}
 use Rattle.raster_pixel.specs.Area.{Sized}
-use Rattle.raster_pixel.specs.Emitted.{Emit}
-use Rattle.frame.specs.Frame.{Frame}
+use Rattle.raster_pixel.specs.Ran.{Ran}
+use Rattle.frame.specs.Frame.{Frame, frame_of}
 use Rattle.frame.specs.Fits.{Fit}
-use Rattle.frame_paint.specs.Pixel.{Drew, Room}
+use Rattle.frame_paint.specs.Steps.{step_frame}
 use Rattle.frame.specs.Checks.{frame_refusal, or_else}
+use Rattle.raster_pixel.specs.declared.view.View.{View}
+use Rattle.raster_pixel.specs.declared.shapes.Shapes.{Shapes}
 use Rattle.frame_draw.specs.Checks.{scissor_ok, flags_ok, inputs_ok, entry_refusal}
-use Rattle.combiner_resolved.proofs.Mixes.{new_mixes}
-use Rattle.frame_paint.specs.Paint.{Mixed}
-use Rattle.frame_draw.specs.Draw.{DrawArgs, Plan, emitted_by, admitted_plan, made_plan, refuse_or, plan_of, drawn_means, Numbered, answer_by, frame_by, draw_answer, draw_frame}
-use Rattle.frame_draw.specs.Answered.{plan_by}
+use Rattle.frame_draw.specs.Draw.{DrawArgs, Plan, emitted_by, admitted_plan, made_plan, refuse_or, plan_of, drawn_means, answer_by, frame_by, draw_answer, draw_frame}
+use Rattle.frame_draw.specs.Answered.{emitted_as, Accepted, Planned}
 use Rattle.frame.proofs.Fits.{accepted}
 
 -- ---- the plan that the checks find
 module _ (d : DrawArgs) (w h : ℕ) (f : Frame) where
   -- an `Err` that is handed on
-  refused : (e : Refusal) (r : Result Combiner Refusal) → IsErrAnd r (λ (x : Refusal). x ≡ e) → plan_by d w h r ≡ Plan.refuse (number_of e)
-  refused e (Ok k) q = absurd q
-  refused e (Err x) q = ap (λ (x : Refusal). Plan.refuse (number_of x)) q
+  pub refused : (e : Refusal) → Plan.refuse (number_of e) ≡ plan_of d w h f → (r : Result (View × Shapes) Refusal) → IsErrAnd r (λ (x : Refusal). x ≡ e) → Planned d w h f r
+  refused e p (Ok x) q = absurd q
+  refused e p (Err x) q = ap (λ (x : Refusal). Plan.refuse (number_of x)) q ∙ p
 
-  pub early :
-      (e : Refusal) → number_of e ≡ entry_refusal f w h d.scissor d.vertices d.present d.indices → (r : Result Combiner Refusal) → IsErrAnd r (λ (x : Refusal). x ≡ e)
-      → plan_by d w h r ≡ plan_of d w h f
+  pub early : (e : Refusal) → number_of e ≡ entry_refusal f w h d.scissor d.vertices d.present d.indices → Plan.refuse (number_of e) ≡ plan_of d w h f
   unfolding plan_of
-  early e p r q = refused e r q ∙ rw (← p) (go (number_of e) (positive e))
+  early e p = rw (← p) (go (number_of e) (positive e))
     where
       go : (j : ℕ) → 1 ≤ j → Plan.refuse j ≡ refuse_or j (made_plan d w h (new_of d.uniform d.mode))
       go zero n = absurd (omega arith)
@@ -57,17 +54,17 @@ module _ (d : DrawArgs) (w h : ℕ) (f : Frame) where
     unfolding plan_of
     made_as = rw (← z, ← em)
 
-    pub sixth : md ≡ None → (e : Refusal) → e ≡ refusal.Combiner → (r : Result Combiner Refusal) → IsErrAnd r (λ (x : Refusal). x ≡ e) → plan_by d w h r ≡ plan_of d w h f
-    sixth n e s r q = refused e r q ∙ ap (λ (x : Refusal). Plan.refuse (number_of x)) s ∙ ap (made_plan d w h) (sym n) ∙ made_as
+    pub sixth : md ≡ None → Plan.refuse 6 ≡ plan_of d w h f
+    sixth n = ap (made_plan d w h) (sym n) ∙ made_as
 
     module _ {x : Combiner} (ex : md ≡ Some x) where
       admitted_as : admitted_plan d w h x ≡ plan_of d w h f
       admitted_as = ap (made_plan d w h) (sym ex) ∙ made_as
 
-      pub seventh : admitted_of x d.geometry d.vertices d.present d.indices ≡ false → plan_by d w h (Err refusal.Geometry) ≡ plan_of d w h f
+      pub seventh : admitted_of x d.geometry d.vertices d.present d.indices ≡ false → Plan.refuse 7 ≡ plan_of d w h f
       seventh n = (λ i. cond (sym n i) (Plan.accept x (emitted_by d w h x)) (Plan.refuse 7)) ∙ admitted_as
 
-      pub taken : admitted_of x d.geometry d.vertices d.present d.indices ≡ true → plan_by d w h (Ok x) ≡ plan_of d w h f
+      pub taken : admitted_of x d.geometry d.vertices d.present d.indices ≡ true → Plan.accept x (emitted_by d w h x) ≡ plan_of d w h f
       taken n = (λ i. cond (sym n i) (Plan.accept x (emitted_by d w h x)) (Plan.refuse 7)) ∙ admitted_as
 
 -- what `ok_or` answers tells whether there is a combiner
@@ -79,33 +76,12 @@ pub no_combiner : (md : Option Combiner) {e : Refusal} {r : Result Combiner Refu
 no_combiner None p q = (refl, cc)
 no_combiner (Some y) p q = cc
 
--- ---- an accepted plan
-clash : {n : ℕ} {x : Combiner} {es : List Emit} → Plan.accept x es ≡ Plan.refuse n → ⊥
-clash p = cc
-
-abbrev Taken : DrawArgs → Combiner → ℕ → Option Combiner → Type 0
-Taken d x k md = (k ≡ 0) × ((admitted_of x d.geometry d.vertices d.present d.indices ≡ true) × (md ≡ Some x))
-
-module _ (d : DrawArgs) (w h : ℕ) {x : Combiner} {es : List Emit} where
-  taken-by :
-      (y : Combiner) (b : Bool) → admitted_of y d.geometry d.vertices d.present d.indices ≡ b
-      → Plan.accept x es ≡ cond b (Plan.accept y (emitted_by d w h y)) (Plan.refuse 7) → Taken d x 0 (Some y)
-  taken-by y true e p =
-      let q : y ≡ x = cc in
-      (refl, (ap (λ (k : Combiner). admitted_of k d.geometry d.vertices d.present d.indices) (sym q) ∙ e, ap Some q))
-  taken-by y false e p = absurd (clash p)
-
-  plan_taken : (k : ℕ) (md : Option Combiner) → Plan.accept x es ≡ refuse_or k (made_plan d w h md) → Taken d x k md
-  plan_taken zero None p = absurd (clash p)
-  plan_taken zero (Some y) p = taken-by y (admitted_of y d.geometry d.vertices d.present d.indices) refl p
-  plan_taken (suc k) md p = absurd (clash p)
-
--- what the checks leave of a draw that they let through
+-- ---- what the checks leave of a draw that they let through
 module _ (f : Frame) (w h : ℕ) (s : Scissor) (vs : List Float) (ps is : List ℕ) where
   pub record Entered : Type 0 where
     pub few : length is ≤ 12288
     pub sized : Sized s w h
-    pub room : Room w h f
+    pub fit : Fit (w * h) f
 
   few_by : inputs_ok vs ps is ≡ true → length is ≤ 12288
   unfolding inputs_ok
@@ -142,17 +118,7 @@ module _ (f : Frame) (w h : ℕ) (s : Scissor) (vs : List Float) (ps is : List �
   entered_by zero e true p false q z = absurd (omega arith)
   entered_by zero e true p true q z =
       let y = accepted f w h (sym e) in
-      record {
-        few = few_by q;
-        sized = sized_by y.width.1 y.height.1 p;
-        room =
-            record {
-              wide = y.width.1;
-              high = y.height.1;
-              there = omega (arith, y.fit.marks, mul_comm w h);
-              fit = subst (λ (n : ℕ). Fit n f) (sym y.fit.marks) y.fit;
-            };
-      }
+      record { few = few_by q; sized = sized_by y.width.1 y.height.1 p; fit = y.fit }
 
   pub entered : entry_refusal f w h s vs ps is ≡ 0 → Entered
   unfolding entry_refusal
@@ -162,27 +128,22 @@ module _ (f : Frame) (w h : ℕ) (s : Scissor) (vs : List Float) (ps is : List �
 module _ (d : DrawArgs) (w h : ℕ) (f : Frame) where
   -- turned away
   pub draw_refused : (e : Refusal) → Plan.refuse (number_of e) ≡ plan_of d w h f → (r : Result ℕ Refusal) → IsErrAnd r (λ (x : Refusal). x ≡ e)
-      → (drawn_means r ≡ draw_answer d w h f) × (f ≡ draw_frame d w h f) × Numbered r
+      → (drawn_means r ≡ draw_answer d w h f) × (f ≡ draw_frame d w h f)
   unfolding draw_answer draw_frame
   draw_refused e p (Ok n) q = absurd q
   draw_refused e p (Err x) q =
       let plan : Plan.refuse (number_of x) ≡ plan_of d w h f = ap (λ (x : Refusal). Plan.refuse (number_of x)) q ∙ p in
-      (ap answer_by plan, ap (λ (p : Plan). frame_by d.mode p f) plan, positive x)
+      (ap answer_by plan, ap (λ (p : Plan). frame_by d.mode p f) plan)
 
-  module _ {x : Combiner} (plan : Plan.accept x (emitted_by d w h x) ≡ plan_of d w h f) where
-    facts : Taken d x (entry_refusal f w h d.scissor d.vertices d.present d.indices) (new_of d.uniform d.mode)
-    unfolding plan_of
-    facts = plan_taken d w h (entry_refusal f w h d.scissor d.vertices d.present d.indices) (new_of d.uniform d.mode) plan
+  -- carried out
+  pub draw_accepted :
+      {v : View} {s : Shapes} → Accepted d w h f v s → {n : ℕ} {g : Frame} → Ran (step_frame s.mode s.combiner) (emitted_as v s) f g n
+      → (drawn_means (Ok n) ≡ draw_answer d w h f) × (g ≡ draw_frame d w h f)
+  unfolding draw_answer draw_frame
+  draw_accepted {s = s} a t =
+      (ap (λ (n : ℕ). drawn_means (Ok n)) t.count ∙ ap answer_by a.plan, t.state ∙ ap₂ (λ (m : RenderMode) (p : Plan). frame_by m p f) a.mode a.plan)
 
-    pub drawable :
-        ((length d.indices ≤ 12288) × Mixed x)
-        × ((admitted_of x d.geometry d.vertices d.present d.indices ≡ true) × (Sized d.scissor w h × Room w h f))
-    drawable =
-        let y = entered f w h d.scissor d.vertices d.present d.indices facts.0 in
-        ((y.few, new_mixes d.uniform d.mode facts.1.1), (facts.1.0, (y.sized, y.room)))
-
-    pub draw_accepted :
-        {m n : ℕ} {g : Frame} → Drew d.mode x m (emitted_by d w h x) f g n → (drawn_means (Ok n) ≡ draw_answer d w h f) × (g ≡ draw_frame d w h f)
-    unfolding draw_answer draw_frame
-    draw_accepted t =
-        (ap (λ (n : ℕ). drawn_means (Ok n)) t.ran.count ∙ ap answer_by plan, t.ran.state ∙ ap (λ (p : Plan). frame_by d.mode p f) plan)
+-- a frame by its three slices
+pub by_slices :
+    {xs cs ms : List ℕ} {f g : Frame} → f ≡ g → xs ≡ f.colors → cs ≡ f.coverages → ms ≡ f.marks → frame_of xs cs ms ≡ g
+by_slices p a b c = (λ i. frame_of (a i) (b i) (c i)) ∙ p

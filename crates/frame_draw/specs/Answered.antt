@@ -1,16 +1,25 @@
 -- Inner vocabulary. What the code's checks of a draw answer, as a plan. Definitions only.
-use Rattle.std.specs.Prelude.{ℕ, ◌≡◌, Result, Ok, Err}
+use Rattle.std.specs.Prelude.{ℕ, ◌*◌, ◌≡◌, List, Result, Ok, Err}
 use Rattle.frame.specs.Frame.{Frame}
+use Rattle.frame.specs.Fits.{Fit}
 use Rattle.refused.specs.declared.Refusal.{Refusal}
 use Rattle.refused.specs.Numbers.{number_of}
-use Rattle.combiner.specs.declared.Combiner.{Combiner}
-use Rattle.frame_draw.specs.Draw.{DrawArgs, Plan, plan_of, emitted_by}
+use Rattle.raster_pixel.specs.Emitted.{Emit, geometry_emits}
+use Rattle.raster_pixel.specs.declared.view.View.{View}
+use Rattle.raster_pixel.specs.declared.shapes.Shapes.{Shapes}
+use Rattle.frame_draw.specs.Draw.{DrawArgs, Plan, plan_of}
 
--- what the code's checks answer, as a plan
-abbrev pub plan_by : DrawArgs → ℕ → ℕ → Result Combiner Refusal → Plan
-plan_by d w h (Ok k) = Plan.accept k (emitted_by d w h k)
-plan_by d w h (Err e) = Plan.refuse (number_of e)
+-- the pixels that an accepted draw emits
+abbrev pub emitted_as : View → Shapes → List Emit
+emitted_as v s = geometry_emits s.mode s.combiner s.cull v.scissor v.width v.height s.lists.vertices.now s.lists.present.now s.lists.indices.now s.geometry
 
--- and that it is the draw's
-abbrev pub Planned : DrawArgs → ℕ → ℕ → Frame → Result Combiner Refusal → Type 0
-Planned d w h f answer = plan_by d w h answer ≡ plan_of d w h f
+-- an accepted draw: its plan, the mode that was asked for, and a frame of the view's size
+pub record Accepted (d : DrawArgs) (w h : ℕ) (f : Frame) (v : View) (s : Shapes) : Type 0 where
+  pub plan : Plan.accept s.combiner (emitted_as v s) ≡ plan_of d w h f
+  pub mode : s.mode ≡ d.mode
+  pub fit : Fit (v.width * v.height) f
+
+-- what the code's checks answer is the draw's plan
+abbrev pub Planned : DrawArgs → ℕ → ℕ → Frame → Result (View × Shapes) Refusal → Type 0
+Planned d w h f (Ok x) = Accepted d w h f x.0 x.1
+Planned d w h f (Err e) = Plan.refuse (number_of e) ≡ plan_of d w h f

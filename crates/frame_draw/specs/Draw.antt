@@ -12,8 +12,8 @@ use Rattle.raster_pixel.specs.Emitted.{Emit, geometry_emits}
 use Rattle.refused.specs.declared.Refusal.{Refusal}
 use Rattle.refused.specs.Numbers.{number_of}
 use Rattle.frame.specs.Frame.{Frame}
-use Rattle.frame.specs.Lent.{Shown, shown}
 use Rattle.frame_paint.specs.Steps.{draw_list}
+use Rattle.frame_draw.specs.declared.DrawCall.{DrawCall}
 use Rattle.frame_draw.specs.Checks.{entry_refusal}
 
 -- everything that a draw carries but the frame
@@ -41,9 +41,8 @@ draw_args mode uniform cull scissor geometry vertices present indices =
     }
 
 -- the draw that a call is given, its three slices as they were lent
-abbrev pub draw_of : RenderMode → CombinerUniform → Bool → Scissor → Geometry → Shown Float → Shown ℕ → Shown ℕ → DrawArgs
-draw_of mode uniform cull scissor geometry vertices present indices =
-    draw_args mode uniform cull scissor geometry (shown vertices) (shown present) (shown indices)
+abbrev pub draw_of : DrawCall → DrawArgs
+draw_of d = draw_args d.mode d.uniform d.cull d.scissor d.geometry d.lists.vertices.now d.lists.present.now d.lists.indices.now
 
 -- turned away with a number, or a combiner and the pixels that it emits
 pub data Plan : Type 0 where

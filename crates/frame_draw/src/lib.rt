@@ -1,19 +1,16 @@
 // A draw over the lent frame (docs/RULES.md, A draw). What it is turned away for is checked before anything is written.
 #![tactic(auto)]
 
-ghost use Rattle.std.specs.Prelude.{◌≡◌, true, ◌≤◌, length};
-ghost use Rattle.raster_pixel.specs.Admitted.{admitted_of};
-ghost use Rattle.raster_pixel.specs.Area.{Sized};
-ghost use Rattle.raster_pixel.specs.Emitted.{geometry_emits};
+ghost use Rattle.std.specs.Prelude.{◌≡◌};
 ghost use Rattle.frame.specs.Frame.{frame_of};
-ghost use Rattle.frame.specs.Lent.{lent, before, after};
-ghost use Rattle.frame_paint.specs.Pixel.{DrewOn, Room};
-ghost use Rattle.frame_paint.specs.Paint.{Mixed};
+ghost use Rattle.frame.specs.Lent.{before, after};
+ghost use Rattle.frame_paint.specs.Pixel.{DrewOn};
 ghost use Rattle.frame_draw.specs.Draw.{draw_of, drawn_means, draw_answer, draw_frame, Numbered};
-ghost use Rattle.frame_draw.specs.Answered.{Planned};
+ghost use Rattle.frame_draw.specs.Answered.{Planned, emitted_as};
 
 use combiner::Combiner;
-use raster_pixel::{Geometry, Scissor};
+use frame_paint::Target;
+use raster_pixel::{Geometry, Lists, Scissor, Shapes, View};
 use refused::Refusal;
 use state::{CombinerUniform, RenderMode};
 
@@ -26,67 +23,56 @@ pub enum Engine {
     Slow,
 }
 
-// What numbers 1 to 7 say of a draw: its combiner, or the first that holds.
-pub fn accept(
+// A draw as it is asked for: everything but the frame and the engine.
+#[derive(Clone, Copy)]
+pub struct DrawCall<'a> {
+    pub mode: RenderMode,
+    pub uniform: CombinerUniform,
+    pub cull: bool,
+    pub scissor: Scissor,
+    pub geometry: Geometry,
+    pub lists: Lists<'a>,
+}
+
+// What numbers 1 to 7 say of a draw: the first that holds, or what it draws and where.
+pub fn accept<'a>(
     width: u32,
     height: u32,
     colors: &[u8],
     coverages: &[u8],
     marks: &[u8],
-    mode: RenderMode,
-    uniform: CombinerUniform,
-    cull: bool,
-    scissor: Scissor,
-    geometry: Geometry,
-    vertices: &[f32],
-    present: &[u8],
-    indices: &[u32],
-) -> Result<Combiner, Refusal>
-    ensures plan { Planned (draw_of mode uniform cull scissor geometry vertices present indices) width height (frame_of colors.now coverages.now marks.now) result }
+    draw: &DrawCall<'a>,
+) -> Result<(View, Shapes<'a>), Refusal>
+    ensures plan { Planned (draw_of draw.now) width height (frame_of colors.now coverages.now marks.now) result }
 {
-    refusal::entry_refusal(
-        colors, coverages, marks, width, height, scissor, vertices, present, indices,
-    )?;
-    let combiner = Combiner::new(uniform, mode).ok_or(Refusal::Combiner)?;
-    if !raster_pixel::admitted(combiner, geometry, vertices, present, indices) {
+    refusal::entry_refusal(width, height, colors, coverages, marks, draw)?;
+    let combiner = Combiner::new(draw.uniform, draw.mode).ok_or(Refusal::Combiner)?;
+    if !draw.lists.admitted(combiner, draw.geometry) {
         return Err(Refusal::Geometry);
     }
-    Ok(combiner)
+    let view = View {
+        scissor: draw.scissor,
+        width,
+        height,
+    };
+    let shapes = Shapes {
+        mode: draw.mode,
+        combiner,
+        cull: draw.cull,
+        geometry: draw.geometry,
+        lists: draw.lists,
+    };
+    Ok((view, shapes))
 }
 
 // The pixels of an accepted draw, and their count.
-fn rasterize_by(
-    engine: Engine,
-    colors: &mut [u8],
-    coverages: &mut [u8],
-    marks: &mut [u8],
-    mode: RenderMode,
-    combiner: Combiner,
-    cull: bool,
-    scissor: Scissor,
-    width: u32,
-    height: u32,
-    geometry: Geometry,
-    vertices: &[f32],
-    present: &[u8],
-    indices: &[u32],
-) -> u64
-    requires few { (length indices.now ≤ 12288) × Mixed combiner }
-    requires admitted { admitted_of combiner geometry vertices.now present.now indices.now ≡ true }
-    requires sized { Sized scissor width height }
-    requires room { Room width height (lent colors coverages marks) }
-    ensures drew { DrewOn mode combiner (geometry_emits mode combiner cull scissor width height vertices.now present.now indices.now geometry) colors coverages marks result }
+fn rasterize_by(engine: Engine, target: &mut Target, shapes: &Shapes) -> u64
+    ensures drew { DrewOn shapes.now.mode shapes.now.combiner (emitted_as target.old.view shapes.now) target.old target.new result }
 {
     // The host chooses at run time, and two calls are the plainest choice of two.
     match engine {
-        Engine::Fast => rasterize::rasterize(
-            colors, coverages, marks, mode, combiner, cull, scissor, width, height, geometry,
-            vertices, present, indices,
-        ),
-        Engine::Slow => rasterize_slow::rasterize(
-            colors, coverages, marks, mode, combiner, cull, scissor, width, height, geometry,
-            vertices, present, indices,
-        ),
+        Engine::Fast => rasterize::rasterize(target, shapes),
+        Engine::Slow => rasterize_slow::rasterize(target, shapes),
     }
 }
 
@@ -98,25 +84,18 @@ pub fn draw(
     colors: &mut [u8],
     coverages: &mut [u8],
     marks: &mut [u8],
-    mode: RenderMode,
-    uniform: CombinerUniform,
-    cull: bool,
-    scissor: Scissor,
-    geometry: Geometry,
-    vertices: &[f32],
-    present: &[u8],
-    indices: &[u32],
+    draw: &DrawCall,
 ) -> Result<u64, Refusal>
-    ensures answer { drawn_means result ≡ draw_answer (draw_of mode uniform cull scissor geometry vertices present indices) width height (before colors coverages marks) }
-    ensures frame { after colors coverages marks ≡ draw_frame (draw_of mode uniform cull scissor geometry vertices present indices) width height (before colors coverages marks) }
+    ensures answer { drawn_means result ≡ draw_answer (draw_of draw.now) width height (before colors coverages marks) }
+    ensures frame { after colors coverages marks ≡ draw_frame (draw_of draw.now) width height (before colors coverages marks) }
     ensures number { Numbered result }
 {
-    let combiner = accept(
-        width, height, colors, coverages, marks, mode, uniform, cull, scissor, geometry, vertices,
-        present, indices,
-    )?;
-    Ok(rasterize_by(
-        engine, colors, coverages, marks, mode, combiner, cull, scissor, width, height, geometry,
-        vertices, present, indices,
-    ))
+    let (view, shapes) = accept(width, height, colors, coverages, marks, draw)?;
+    let mut target = Target {
+        view,
+        colors,
+        coverages,
+        marks,
+    };
+    Ok(rasterize_by(engine, &mut target, &shapes))
 }

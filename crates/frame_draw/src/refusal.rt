@@ -3,8 +3,10 @@ ghost use Rattle.std.specs.Prelude.{◌≡◌};
 ghost use Rattle.frame.specs.Frame.{frame_of};
 ghost use Rattle.refused.specs.Refused.{refusal_of};
 ghost use Rattle.frame_draw.specs.Checks.{scissor_ok, flags_ok, inputs_ok, entry_refusal};
+ghost use Rattle.frame_draw.specs.Draw.{draw_of};
 
-use raster_pixel::Scissor;
+use crate::DrawCall;
+use raster_pixel::{Lists, Scissor};
 use refused::Refusal;
 
 const SCISSOR: u32 = 65535;
@@ -27,35 +29,33 @@ fn flags_ok(present: &[u8]) -> bool
 }
 
 #[tactic(auto, unfolding(crate::specs::Checks::inputs_ok))]
-fn inputs_ok(vertices: &[f32], present: &[u8], indices: &[u32]) -> bool
-    ensures { result ≡ inputs_ok vertices.now present.now indices.now }
+fn inputs_ok(lists: &Lists) -> bool
+    ensures { let l = lists.now in result ≡ inputs_ok l.vertices.now l.present.now l.indices.now }
 {
-    present.len() <= VERTICES
-        && vertices.len() == 6 * present.len()
-        && flags_ok(present)
-        && indices.len() % 3 == 0
-        && indices.len() <= INDICES
+    lists.present.len() <= VERTICES
+        && lists.vertices.len() == 6 * lists.present.len()
+        && flags_ok(lists.present)
+        && lists.indices.len() % 3 == 0
+        && lists.indices.len() <= INDICES
 }
 
 #[tactic(auto, unfolding(crate::specs::Checks::entry_refusal))]
 pub fn entry_refusal(
+    width: u32,
+    height: u32,
     colors: &[u8],
     coverages: &[u8],
     marks: &[u8],
-    width: u32,
-    height: u32,
-    scissor: Scissor,
-    vertices: &[f32],
-    present: &[u8],
-    indices: &[u32],
+    draw: &DrawCall,
 ) -> Result<(), Refusal>
-    ensures { refusal_of result ≡ entry_refusal (frame_of colors.now coverages.now marks.now) width height scissor vertices.now present.now indices.now }
+    ensures { let d = draw_of draw.now in
+        refusal_of result ≡ entry_refusal (frame_of colors.now coverages.now marks.now) width height d.scissor d.vertices d.present d.indices }
 {
     frame::refusal::frame_refusal(colors, coverages, marks, width, height)?;
-    if !scissor_ok(scissor) {
+    if !scissor_ok(draw.scissor) {
         return Err(Refusal::Scissor);
     }
-    if !inputs_ok(vertices, present, indices) {
+    if !inputs_ok(&draw.lists) {
         return Err(Refusal::Lists);
     }
     Ok(())

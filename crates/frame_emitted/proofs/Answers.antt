@@ -1,8 +1,8 @@
 -- The answers follow from the draw's plan: its number where it is turned away, and else the list that the draw would carry out, of which the masks alone are listed. Assumes
 -- nothing.
 use Prim.Native.Nat.{ℕ, zero, suc, ◌+◌, ◌-◌, ◌≤◌, ◌<◌, min}
-use mathlib.Core.Path.{◌≡◌, refl, sym, ap, subst, ◌∙◌}
-use mathlib.Core.Bool.{true, cond}
+use mathlib.Core.Path.{◌≡◌, refl, sym, ap, ◌∙◌}
+use mathlib.Core.Bool.{cond}
 use mathlib.Core.List.{List, map}
 use native.Mathlib.Omega.{arith}
 use borrow.Author.Tests.{eq-eqb, ne_eqb}
@@ -15,35 +15,39 @@ use Rattle.refused.specs.declared.Refusal.{Refusal}
 use Rattle.refused.specs.declared.Refusal.TheVariants as refusal
 use Rattle.refused.specs.Numbers.{number_of}
 use Rattle.refused.proofs.Numbers.{positive}
-use Rattle.combiner.specs.declared.Combiner.{Combiner}
 use Rattle.combiner_resolved.specs.Resolved.{mixed_by, resolved_of}
-use Rattle.raster_pixel.specs.declared.Geometry.{Geometry}
-use Rattle.raster_pixel.specs.declared.Geometry.TheVariants.{Triangles}
-use Rattle.raster_pixel.specs.Admitted.{admitted_of}
-use Rattle.raster_pixel.specs.Area.{Sized}
-use Rattle.raster_pixel.specs.Emitted.{Emit}
-use Rattle.raster_pixel.specs.Near.{TrianglesNear}
+use Rattle.raster_pixel.specs.declared.view.View.{View}
+use Rattle.raster_pixel.specs.declared.shapes.Shapes.{Shapes}
 use Rattle.raster_pixel.proofs.Counts.{geometry_most}
-use Rattle.raster_pixel.proofs.Near.{admitted_near}
 use Rattle.raster_pixel.proofs.Parts.{each_length, each_at}
 use Rattle.raster_emitted.specs.Masked.{Masked, masked_of, no_pixel}
-use Rattle.raster_emitted.specs.Shapes.{geometry_masks}
 use Rattle.raster_emitted.proofs.Colorless.{geometry-masks}
 use Rattle.frame.specs.Checks.{or_else}
 use Rattle.frame.specs.Frame.{Frame}
-use Rattle.frame_paint.specs.Paint.{Mixed}
-use Rattle.frame_draw.specs.Draw.{DrawArgs, Plan, plan_of, emitted_by, answer_by, draw_answer}
-use Rattle.frame_draw.proofs.Plans.{drawable}
+use Rattle.frame_draw.specs.Draw.{DrawArgs, Plan, plan_of, answer_by, draw_answer}
+use Rattle.frame_draw.specs.Answered.{emitted_as, Accepted}
 use Rattle.frame_emitted.specs.declared.Emitted.{Emitted}
 use Rattle.frame_emitted.specs.declared.Listed.{Listed}
 use Rattle.frame_emitted.specs.Emitted.{PixelAnswer, without_pixel, pixel_of, pixel_means, NumberedPixel, pixel_by, emitted_answer}
 use Rattle.frame_emitted.specs.Run.{pixels_means, NumberedPixels, singles, pixels_by, emitted_run}
-use Rattle.frame_emitted.specs.Places.{largest_count, FoundAt, ListedAll}
+use Rattle.frame_emitted.specs.Places.{masks_as, largest_count, FoundAt, ListedAll}
 use Rattle.frame_emitted.proofs.Ends.{pixel_there}
 
--- the masks that the code lists
-abbrev masks_of : DrawArgs → ℕ → ℕ → List Masked
-masks_of d w h = geometry_masks d.mode.antialias d.cull d.scissor w h d.vertices d.present d.indices d.geometry
+-- ---- what an accepted draw emits
+module _ (v : View) (s : Shapes) where
+  -- it is listed without its colours
+  masks_are : map masked_of (emitted_as v s) ≡ masks_as v s
+  masks_are =
+      geometry-masks s.combiner (mixed_by (resolved_of s.combiner)) s.mixed s.mode s.cull v.scissor v.width v.height s.lists.vertices.now s.lists.present.now s.lists.indices.now s.geometry
+
+  -- and counts as many pixels
+  masks_count : length (masks_as v s) ≡ length (emitted_as v s)
+  masks_count = ap length (sym masks_are) ∙ length-map (emitted_as v s) masked_of
+
+  -- so few that no count overflows
+  pub masks_few : length (masks_as v s) ≤ largest_count
+  masks_few =
+      omega (arith, masks_count, s.few, geometry_most v.scissor v.sized.width_small v.sized.height_small s.mode s.combiner s.cull s.lists.vertices.now s.lists.present.now s.lists.indices.now s.geometry)
 
 module _ (d : DrawArgs) (w h : ℕ) (f : Frame) where
   -- ---- turned away
@@ -73,46 +77,22 @@ module _ (d : DrawArgs) (w h : ℕ) (f : Frame) where
         go (suc n) l next answers = refl
 
   -- ---- accepted
-  module _ {x : Combiner} (plan : Plan.accept x (emitted_by d w h x) ≡ plan_of d w h f) where
-    abbrev es : List Emit
-    es = emitted_by d w h x
-
-    masks_are : map masked_of es ≡ masks_of d w h
-    masks_are =
-        geometry-masks x (mixed_by (resolved_of x)) (drawable d w h f plan).0.1 d.mode d.cull d.scissor w h d.vertices d.present d.indices d.geometry
-
-    few : length es ≤ largest_count
-    few =
-        let y = drawable d w h f plan in
-        let z = y.1.1.0 in
-        omega (arith, geometry_most d.scissor z.width_small z.height_small d.mode x d.cull d.vertices d.present d.indices d.geometry, y.0.0)
-
-    -- what the code needs of the draw
-    pub listable : (Sized d.scissor w h × Mixed x) × ((d.geometry ≡ Triangles → TrianglesNear d.vertices d.present d.indices) × (length (masks_of d w h) ≤ largest_count))
-    listable =
-        let y = drawable d w h f plan in (
-          (y.1.1.0, y.0.1),
-          (
-            λ g. admitted_near x d.vertices d.present d.indices (subst (λ (q : Geometry). admitted_of x q d.vertices d.present d.indices ≡ true) g y.1.0),
-            omega (arith, few, ap length masks_are, length-map es masked_of),
-          ),
-        )
-
-    answer_at_lem : (k : ℕ) → pixel_of (get_or (masks_of d w h) k no_pixel) ≡ emitted_answer d w h f k
+  module _ {v : View} {s : Shapes} (accepted : Accepted d w h f v s) where
+    answer_at_lem : (k : ℕ) → pixel_of (get_or (masks_as v s) k no_pixel) ≡ emitted_answer d w h f k
     unfolding emitted_answer
-    answer_at_lem k = ap (λ (l : List Masked). pixel_of (get_or l k no_pixel)) (sym masks_are) ∙ ap (λ (p : Plan). pixel_by p k) plan
+    answer_at_lem k = ap (λ (l : List Masked). pixel_of (get_or l k no_pixel)) (sym (masks_are v s)) ∙ ap (λ (p : Plan). pixel_by p k) accepted.plan
 
     -- the count that `draw` would answer
-    count_is : length (masks_of d w h) ≡ (draw_answer d w h f).pixels
+    count_is : length (masks_as v s) ≡ (draw_answer d w h f).pixels
     unfolding draw_answer
-    count_is = ap length (sym masks_are) ∙ length-map es masked_of ∙ ap (λ (p : Plan). (answer_by p).pixels) plan
+    count_is = masks_count v s ∙ ap (λ (p : Plan). (answer_by p).pixels) accepted.plan
 
     pub pixel_accepted :
-        (a : Option Emitted) (k : ℕ) → pixel_means (Ok a) ≡ pixel_of (get_or (masks_of d w h) k no_pixel) → FoundAt (masks_of d w h) k a
+        (a : Option Emitted) (k : ℕ) → pixel_means (Ok a) ≡ pixel_of (get_or (masks_as v s) k no_pixel) → FoundAt (masks_as v s) k a
         → (pixel_means (Ok a) ≡ emitted_answer d w h f k) × NumberedPixel (Ok a)
     pixel_accepted a k p q = let e = p ∙ answer_at_lem k in (e, right a e q)
       where
-        right : (a : Option Emitted) → pixel_means (Ok a) ≡ emitted_answer d w h f k → FoundAt (masks_of d w h) k a → NumberedPixel (Ok a)
+        right : (a : Option Emitted) → pixel_means (Ok a) ≡ emitted_answer d w h f k → FoundAt (masks_as v s) k a → NumberedPixel (Ok a)
         right (Some p) e q =
             let t = pixel_there d w h f k (omega (arith, count_is)) in
             omega (arith, t.1, ap (λ (x : PixelAnswer). x.mask) e)
@@ -124,13 +104,13 @@ module _ (d : DrawArgs) (w h : ℕ) (f : Frame) where
         → (pixels_means (Err refusal.Slots) ps ms ≡ emitted_run d w h f first ps ms) × NumberedPixels (Err refusal.Slots)
     unfolding emitted_run draw_answer
     run_unequal first ps ms n = (
-      (λ i. pixels_by (cond (sym (ne_eqb (length ps) (length ms) n) i) 0 20) first (length es) (singles d w h f first (length ms)) ps ms)
-          ∙ (λ i. pixels_by (or_else (answer_by (plan i)).number (cond (eqb (length ps) (length ms)) 0 20)) first (answer_by (plan i)).pixels (singles d w h f first (length ms)) ps ms),
+      (λ i. pixels_by (cond (sym (ne_eqb (length ps) (length ms) n) i) 0 20) first (length (emitted_as v s)) (singles d w h f first (length ms)) ps ms)
+          ∙ (λ i. pixels_by (or_else (answer_by (accepted.plan i)).number (cond (eqb (length ps) (length ms)) 0 20)) first (answer_by (accepted.plan i)).pixels (singles d w h f first (length ms)) ps ms),
       omega arith,
     )
 
     -- a slot for each single answer
-    module _ {first n : ℕ} {ms ps' ms' : List ℕ} (l : ListedAll (masks_of d w h) first n ms ps' ms') where
+    module _ {first n : ℕ} {ms ps' ms' : List ℕ} (l : ListedAll (masks_as v s) first n ms ps' ms') where
       column :
           (of : PixelAnswer → ℕ) (xs : List ℕ) → length xs ≡ length ms
           → ((i : ℕ) → i < length ms → get_or xs i 0 ≡ of (emitted_answer d w h f (first + i))) → of (without_pixel 0) ≡ 0
@@ -154,12 +134,12 @@ module _ (d : DrawArgs) (w h : ℕ) (f : Frame) where
           → (pixels_means (Ok (record { listed = m; emitted = n })) ps' ms' ≡ emitted_run d w h f first ps ms) × NumberedPixels (Ok (record { listed = m; emitted = n }))
       unfolding emitted_run draw_answer
       run_accepted ps {m} equal em =
-          let count : n ≡ length es = l.count ∙ ap length (sym masks_are) ∙ length-map es masked_of in
-          let slots : m ≡ min (length ms) (length es - first) = omega (arith, em, l.masks_long, count) in
+          let count : n ≡ length (emitted_as v s) = l.count ∙ masks_count v s in
+          let slots : m ≡ min (length ms) (length (emitted_as v s) - first) = omega (arith, em, l.masks_long, count) in
           let pixels = column (λ (a : PixelAnswer). a.pixel) ps' l.pixels_long (λ i p. ap (λ (a : PixelAnswer). a.pixel) (slot_at i p)) refl in
           let masks = column (λ (a : PixelAnswer). a.mask) ms' l.masks_long (λ i p. ap (λ (a : PixelAnswer). a.mask) (slot_at i p)) refl in (
             (λ i. record { number = 0; listed = slots i; emitted = count i; pixels = pixels i; masks = masks i })
-                ∙ (λ i. pixels_by (cond (sym (eq-eqb (length ps) (length ms) equal) i) 0 20) first (length es) (singles d w h f first (length ms)) ps ms)
-                ∙ (λ i. pixels_by (or_else (answer_by (plan i)).number (cond (eqb (length ps) (length ms)) 0 20)) first (answer_by (plan i)).pixels (singles d w h f first (length ms)) ps ms),
+                ∙ (λ i. pixels_by (cond (sym (eq-eqb (length ps) (length ms) equal) i) 0 20) first (length (emitted_as v s)) (singles d w h f first (length ms)) ps ms)
+                ∙ (λ i. pixels_by (or_else (answer_by (accepted.plan i)).number (cond (eqb (length ps) (length ms)) 0 20)) first (answer_by (accepted.plan i)).pixels (singles d w h f first (length ms)) ps ms),
             tt,
           )

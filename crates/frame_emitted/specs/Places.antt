@@ -1,8 +1,15 @@
 -- Inner vocabulary. The pixels of a draw in their slots, as the code finds them. Definitions only.
 use Rattle.std.specs.Prelude.{ℕ, ◌+◌, ◌<◌, ◌≡◌, List, length, Option, Some, None, slice_index_or}
+use Rattle.raster_pixel.specs.declared.view.View.{View}
+use Rattle.raster_pixel.specs.declared.shapes.Shapes.{Shapes}
+use Rattle.raster_emitted.specs.Shapes.{geometry_masks}
 use Rattle.raster_emitted.specs.Masked.{Masked, no_pixel}
-use Rattle.raster_emitted.specs.Listed.{slots_of, slot_at}
+use Rattle.raster_emitted.specs.Filled.{places_of, slot_at}
 use Rattle.frame_emitted.specs.declared.Emitted.{Emitted}
+
+-- the pixels of an accepted draw, without their colours
+abbrev pub masks_as : View → Shapes → List Masked
+masks_as v s = geometry_masks s.mode.antialias s.cull v.scissor v.width v.height s.lists.vertices.now s.lists.present.now s.lists.indices.now s.geometry
 
 -- the largest count of 64 bits
 abbrev pub largest_count : ℕ
@@ -18,4 +25,4 @@ pub record ListedAll (es : List Masked) (first n : ℕ) (before pixels masks : L
   pub count : n ≡ length es
   pub pixels_long : length pixels ≡ length before
   pub masks_long : length masks ≡ length before
-  pub slots : (i : ℕ) → i < length before → slot_at (slots_of pixels masks) i ≡ slice_index_or es (first + i) no_pixel
+  pub slots : (i : ℕ) → i < length before → slot_at (places_of pixels masks) i ≡ slice_index_or es (first + i) no_pixel

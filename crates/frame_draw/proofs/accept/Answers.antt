@@ -1,29 +1,47 @@
-use Rattle.std.proofs.Common.{sym}
-use Rattle.frame_draw.specs.Draw.{draw_args}
-use Rattle.frame_draw.proofs.Plans.{early, sixth, seventh, taken, no_combiner, some_combiner}
+use Rattle.std.proofs.Common.{refl, sym, ap, ◌∙◌}
+use Rattle.refused.specs.declared.Refusal.{Refusal}
+use Rattle.refused.specs.Numbers.{number_of}
+use Rattle.frame_draw.specs.Draw.{draw_of, Plan}
+use Rattle.combiner_resolved.proofs.Mixes.{new_mixes}
+use Rattle.frame_draw.proofs.Plans.{refused, early, sixth, seventh, taken, no_combiner, some_combiner, entered}
 use Rattle.frame_draw.proofs.accept.Goals as goal
 
 pub returns-in_err-entry_refusal : goal.returns-in_err-entry_refusal
 returns-in_err-entry_refusal c =
-    let a = c.args in
-    record { plan = early (draw_args a.mode a.uniform a.cull a.scissor a.geometry a.vertices.now a.present.now a.indices.now) _ _ _ c.in_err-entry_refusal.field-0.0 c.in_err-entry_refusal.ensures _ c.from_residual.ensures.1 }
+    let d = draw_of c.args.draw.now in
+    record { plan = refused d _ _ _ _ (early d _ _ _ _ c.in_err-entry_refusal.ensures) _ c.from_residual.ensures.1 }
 
 pub returns-in_err-combiner : goal.returns-in_err-combiner
 returns-in_err-combiner c =
-    let a = c.args in
+    let d = draw_of c.args.draw.now in
     let none = no_combiner c.new.result c.ok_or.ensures.value c.in_err-combiner.was in
-    record { plan = sixth (draw_args a.mode a.uniform a.cull a.scissor a.geometry a.vertices.now a.present.now a.indices.now) _ _ _ c.in_ok-entry_refusal.ensures c.new.ensures.value none.0 _ none.1 _ c.from_residual-in_err-combiner.ensures.1 }
+    record {
+      plan = refused d _ _ _ _ (ap (λ (e : Refusal). Plan.refuse (number_of e)) none.1 ∙ sixth d _ _ _ c.in_ok-entry_refusal.ensures c.new.ensures.value none.0) _ c.from_residual-in_err-combiner.ensures.1;
+    }
 
 pub returns-then-not-admitted : goal.returns-then-not-admitted
 returns-then-not-admitted c =
-    let a = c.args in
     record {
-      plan = seventh (draw_args a.mode a.uniform a.cull a.scissor a.geometry a.vertices.now a.present.now a.indices.now) _ _ _ c.in_ok-entry_refusal.ensures c.new.ensures.value (some_combiner _ c.ok_or.ensures.value c.in_ok-combiner.was) (sym c.if-not-admitted.ensures);
+      plan = seventh (draw_of c.args.draw.now) _ _ _ c.in_ok-entry_refusal.ensures c.new.ensures.value (some_combiner _ c.ok_or.ensures.value c.in_ok-combiner.was) (sym c.if-not-admitted.ensures);
     }
+
+pub invariant_of-view : goal.invariant_of-view
+invariant_of-view c = record { sized = (entered _ _ _ _ _ _ _ (sym c.in_ok-entry_refusal.ensures)).sized }
+
+pub invariant_of-shapes-clause-few : goal.invariant_of-shapes-clause-few
+invariant_of-shapes-clause-few c = (entered _ _ _ _ _ _ _ (sym c.in_ok-entry_refusal.ensures)).few
+
+pub invariant_of-shapes-clause-mixed : goal.invariant_of-shapes-clause-mixed
+invariant_of-shapes-clause-mixed c =
+    new_mixes _ _ (sym c.new.ensures.value ∙ some_combiner _ c.ok_or.ensures.value c.in_ok-combiner.was)
 
 pub returns : goal.returns
 returns c =
-    let a = c.args in
     record {
-      plan = taken (draw_args a.mode a.uniform a.cull a.scissor a.geometry a.vertices.now a.present.now a.indices.now) _ _ _ c.in_ok-entry_refusal.ensures c.new.ensures.value (some_combiner _ c.ok_or.ensures.value c.in_ok-combiner.was) (sym c.if-not-admitted.ensures);
+      plan =
+          record {
+            plan = taken (draw_of c.args.draw.now) _ _ _ c.in_ok-entry_refusal.ensures c.new.ensures.value (some_combiner _ c.ok_or.ensures.value c.in_ok-combiner.was) (sym c.if-not-admitted.ensures);
+            mode = refl;
+            fit = (entered _ _ _ _ _ _ _ (sym c.in_ok-entry_refusal.ensures)).fit;
+          };
     }
