@@ -135,7 +135,7 @@ specs {
         if (line ~ /;/) { reexported(reexport); reexport = "" }
         next
     }
-    if (line ~ /^impl /) { type = line; sub(/^impl /, "", type); sub(/ *\{.*/, "", type); next }
+    if (line ~ /^impl[ <]/) { type = line; sub(/^impl(<[^>]*>)? /, "", type); sub(/[ <{].*/, "", type); next }
     if (line ~ /^}/) { type = ""; call = ""; gathering = 0 }
     if (line ~ /^ *(pub )?(extern "C" )?fn /) {
         open_call = (line ~ /^ *pub /); name = line

@@ -10,7 +10,7 @@ functions() {
     for crate in crates/*/; do
         crate=${crate%/}
         awk -v crate="${crate#crates/}" '
-            /^impl / { type = $2 "::" }
+            /^impl[ <]/ { type = $0; sub(/^impl(<[^>]*>)? /, "", type); sub(/[ <{].*/, "", type); type = type "::" }
             /^}/ { type = "" }
             /^ *pub (extern "C" )?fn / { text = ""; taking = 1 }
             taking { text = text " " $0 }
@@ -42,7 +42,9 @@ items() {
     done
 }
 while read -r crate name; do
-    grep -qE "^pub (fn|struct|enum|type) $name\b" "crates/$crate/src/lib.rt" || loud "$crate::$name is no function, struct, enum or type of its crate's root"
+    # A crate's root may pass it on from a module: pub use crate::MODULE::NAME;
+    module=$(sed -nE "s/^pub use crate::(\w+)::$name;.*/\1/p" "crates/$crate/src/lib.rt")
+    grep -qE "^pub (fn|struct|enum|type) $name\b" "crates/$crate/src/${module:-lib}.rt" || loud "$crate::$name is no function, struct, enum or type of its crate's root"
 done < <(items)
 # A type's other name may stand for one of these, too.
 enums=$( (grep -ohE '^pub (enum|type) \w+' crates/*/src/*.rt | sed -E 's/pub (enum|type) //'; printf 'Option\nResult\n') | sort -u)

@@ -11,7 +11,7 @@ ghost use Rattle.c_draw.specs.Draws.{geometry_from, emitted_from, fragment_answe
 use c_answers::no_color;
 use c_types::{Mode, Parts};
 use combiner::Combiner;
-use raster_pixel::{Fragment, Geometry};
+use raster_pixel::{Fragment, Geometry, Lists};
 use raster_rectangle::Sides;
 use raster_vertex::Vertex;
 use state::Rgba;
@@ -87,18 +87,10 @@ pub fn in_range(x: f32, y: f32) -> bool
     v.in_range()
 }
 
-pub fn admitted(
-    combiner: Parts,
-    geometry: GeometryParts,
-    vertices: &[f32],
-    present: &[u8],
-    indices: &[u32],
-) -> bool
-    ensures { result ≡ admitted_of (combiner_from combiner) (geometry_from geometry) vertices.now present.now indices.now }
+pub fn admitted(combiner: Parts, geometry: GeometryParts, lists: &Lists) -> bool
+    ensures { result ≡ admitted_of (combiner_from combiner) (geometry_from geometry) lists.now.vertices.now lists.now.present.now lists.now.indices.now }
 {
-    let k = Combiner::from(combiner);
-    let g = Geometry::from(geometry);
-    raster_pixel::admitted(k, g, vertices, present, indices)
+    lists.admitted(Combiner::from(combiner), Geometry::from(geometry))
 }
 
 // Pixel (x, y) of triangle i, or of the rectangle.
@@ -107,25 +99,19 @@ pub fn pixel(
     combiner: Parts,
     cull: bool,
     geometry: GeometryParts,
-    vertices: &[f32],
-    present: &[u8],
-    indices: &[u32],
+    lists: &Lists,
     i: usize,
     y: u32,
     x: u32,
 ) -> FragmentAnswer
-    ensures { result ≡ fragment_answer (emitted_from mode combiner cull geometry vertices.now present.now indices.now i y x) }
+    ensures { result ≡ fragment_answer (emitted_from mode combiner cull geometry lists.now.vertices.now lists.now.present.now lists.now.indices.now i y x) }
 {
-    let k = Combiner::from(combiner);
-    let g = Geometry::from(geometry);
     let fragment = c_emitted::pixel(
         mode.antialias,
-        k,
+        Combiner::from(combiner),
         cull,
-        g,
-        vertices,
-        present,
-        indices,
+        Geometry::from(geometry),
+        lists,
         i,
         y,
         x,

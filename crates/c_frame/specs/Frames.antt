@@ -2,8 +2,8 @@
 use Rattle.std.specs.Prelude.{ℕ, Bool, Float}
 use Rattle.state.specs.declared.CombinerUniform.{CombinerUniform}
 use Rattle.raster_pixel.specs.declared.Scissor.{Scissor}
-use Rattle.frame.specs.Lent.{Shown}
-use Rattle.frame_draw.specs.Draw.{DrawArgs, DrawAnswer, draw_of}
+use Rattle.frame.specs.Lent.{Shown, shown}
+use Rattle.frame_draw.specs.Draw.{DrawArgs, DrawAnswer, draw_args}
 use Rattle.words_read.specs.Read.{ReadArgs, WordAnswer, read_args}
 use Rattle.words_run.specs.Run.{RunAnswer}
 use Rattle.frame_emitted.specs.Emitted.{PixelAnswer}
@@ -22,7 +22,7 @@ use Rattle.c_answers.specs.Answers.{two_bytes}
 -- the draw and the read that C's values ask for
 abbrev pub draw_from : Mode → CombinerUniform → Bool → Scissor → GeometryParts → Shown Float → Shown ℕ → Shown ℕ → DrawArgs
 draw_from mode uniform cull scissor geometry vertices present indices =
-    draw_of (mode_of mode) uniform cull scissor (geometry_from geometry) vertices present indices
+    draw_args (mode_of mode) uniform cull scissor (geometry_from geometry) (shown vertices) (shown present) (shown indices)
 
 abbrev pub read_from : ℕ → ℕ → ℕ → ℕ → Bool → ReadArgs
 read_from pixel fmt siz dither big = read_args pixel fmt siz dither (encoding_of big)

@@ -2,17 +2,15 @@
 ghost use Rattle.std.specs.Prelude.{◌≡◌, List, ℕ};
 ghost use Rattle.frame.specs.Frame.{frame_of};
 ghost use Rattle.frame.specs.Lent.{old, new};
+ghost use Rattle.frame_draw.specs.Draw.{draw_of};
 ghost use Rattle.frame_emitted.specs.Emitted.{pixel_means, emitted_answer};
 ghost use Rattle.frame_emitted.specs.Run.{pixels_means, emitted_run};
-ghost use Rattle.c_frame.specs.Frames.{draw_from, pixel_answer, listed_answer};
+ghost use Rattle.c_frame.specs.Frames.{pixel_answer, listed_answer};
 
 use crate::engine_of;
-use c_draw::GeometryParts;
-use c_types::Mode;
+use frame_draw::DrawCall;
 use frame_emitted::{Emitted, Listed};
-use raster_pixel::{Geometry, Scissor};
 use refused::Refusal;
-use state::{CombinerUniform, RenderMode};
 
 // The number (docs/RULES.md), and an emitted pixel with its mask, zeros where there is none.
 #[repr(C)]
@@ -82,20 +80,11 @@ pub fn emitted_pixel(
     colors: &[u8],
     coverages: &[u8],
     marks: &[u8],
-    mode: Mode,
-    uniform: CombinerUniform,
-    cull: bool,
-    scissor: Scissor,
-    geometry: GeometryParts,
-    vertices: &[f32],
-    present: &[u8],
-    indices: &[u32],
+    draw: &DrawCall,
     k: u64,
 ) -> EmittedAnswer
-    ensures { result ≡ pixel_answer (emitted_answer (draw_from mode uniform cull scissor geometry vertices present indices) width height (frame_of colors.now coverages.now marks.now) k) }
+    ensures { result ≡ pixel_answer (emitted_answer (draw_of draw.now) width height (frame_of colors.now coverages.now marks.now) k) }
 {
-    let m = RenderMode::from(mode);
-    let g = Geometry::from(geometry);
     let answer = frame_emitted::emitted_pixel(
         engine_of(engine),
         width,
@@ -103,14 +92,7 @@ pub fn emitted_pixel(
         colors,
         coverages,
         marks,
-        m,
-        uniform,
-        cull,
-        scissor,
-        g,
-        vertices,
-        present,
-        indices,
+        draw,
         k,
     );
     EmittedAnswer::from(answer)
@@ -123,27 +105,18 @@ pub fn emitted_pixels(
     colors: &[u8],
     coverages: &[u8],
     marks: &[u8],
-    mode: Mode,
-    uniform: CombinerUniform,
-    cull: bool,
-    scissor: Scissor,
-    geometry: GeometryParts,
-    vertices: &[f32],
-    present: &[u8],
-    indices: &[u32],
+    draw: &DrawCall,
     first: u64,
     pixels: &mut [u32],
     masks: &mut [u8],
 ) -> ListedAnswer
-    ensures answer { let d = draw_from mode uniform cull scissor geometry vertices present indices in
+    ensures answer { let d = draw_of draw.now in
         result ≡ listed_answer (emitted_run d width height (frame_of colors.now coverages.now marks.now) first (old pixels) (old masks)) }
-    ensures pixels { let d = draw_from mode uniform cull scissor geometry vertices present indices in
+    ensures pixels { let d = draw_of draw.now in
         new pixels ≡ (emitted_run d width height (frame_of colors.now coverages.now marks.now) first (old pixels) (old masks)).pixels }
-    ensures masks { let d = draw_from mode uniform cull scissor geometry vertices present indices in
+    ensures masks { let d = draw_of draw.now in
         new masks ≡ (emitted_run d width height (frame_of colors.now coverages.now marks.now) first (old pixels) (old masks)).masks }
 {
-    let m = RenderMode::from(mode);
-    let g = Geometry::from(geometry);
     let answer = frame_emitted::emitted_pixels(
         engine_of(engine),
         width,
@@ -151,14 +124,7 @@ pub fn emitted_pixels(
         colors,
         coverages,
         marks,
-        m,
-        uniform,
-        cull,
-        scissor,
-        g,
-        vertices,
-        present,
-        indices,
+        draw,
         first,
         pixels,
         masks,

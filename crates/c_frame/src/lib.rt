@@ -5,7 +5,7 @@
 ghost use Rattle.std.specs.Prelude.{◌≡◌, []};
 ghost use Rattle.frame.specs.Frame.{frame_of};
 ghost use Rattle.frame.specs.Lent.{old, new, before, after};
-ghost use Rattle.frame_draw.specs.Draw.{drawn_means, draw_answer, draw_frame};
+ghost use Rattle.frame_draw.specs.Draw.{draw_of, drawn_means, draw_answer, draw_frame};
 ghost use Rattle.words_read.specs.Read.{read_answer};
 ghost use Rattle.words_run.specs.Run.{run_means, run_answer};
 ghost use Rattle.c_frame.specs.Engines.{engine_of};
@@ -14,8 +14,8 @@ ghost use Rattle.c_frame.specs.Frames.{draw_from, read_from, drawn_answer, word_
 use c_answers::Answer;
 use c_draw::GeometryParts;
 use c_types::{Mode, byte_order};
-use frame_draw::Engine;
-use raster_pixel::{Geometry, Scissor};
+use frame_draw::{DrawCall, Engine};
+use raster_pixel::{Geometry, Lists, Scissor};
 use refused::Refusal;
 use state::{CombinerUniform, RenderMode};
 
@@ -75,6 +75,33 @@ impl From<Result<u64, Refusal>> for RanAnswer {
     }
 }
 
+// The draw that C's values ask for.
+pub fn draw_call<'a>(
+    mode: Mode,
+    uniform: CombinerUniform,
+    cull: bool,
+    scissor: Scissor,
+    geometry: GeometryParts,
+    vertices: &'a [f32],
+    present: &'a [u8],
+    indices: &'a [u32],
+) -> DrawCall<'a>
+    ensures { draw_of result ≡ draw_from mode uniform cull scissor geometry vertices present indices }
+{
+    DrawCall {
+        mode: RenderMode::from(mode),
+        uniform,
+        cull,
+        scissor,
+        geometry: Geometry::from(geometry),
+        lists: Lists {
+            vertices,
+            present,
+            indices,
+        },
+    }
+}
+
 pub fn draw(
     engine: u8,
     width: u32,
@@ -82,20 +109,11 @@ pub fn draw(
     colors: &mut [u8],
     coverages: &mut [u8],
     marks: &mut [u8],
-    mode: Mode,
-    uniform: CombinerUniform,
-    cull: bool,
-    scissor: Scissor,
-    geometry: GeometryParts,
-    vertices: &[f32],
-    present: &[u8],
-    indices: &[u32],
+    draw: &DrawCall,
 ) -> DrawnAnswer
-    ensures answer { result ≡ drawn_answer (draw_answer (draw_from mode uniform cull scissor geometry vertices present indices) width height (before colors coverages marks)) }
-    ensures frame { after colors coverages marks ≡ draw_frame (draw_from mode uniform cull scissor geometry vertices present indices) width height (before colors coverages marks) }
+    ensures answer { result ≡ drawn_answer (draw_answer (draw_of draw.now) width height (before colors coverages marks)) }
+    ensures frame { after colors coverages marks ≡ draw_frame (draw_of draw.now) width height (before colors coverages marks) }
 {
-    let m = RenderMode::from(mode);
-    let g = Geometry::from(geometry);
     let answer = frame_draw::draw(
         engine_of(engine),
         width,
@@ -103,14 +121,7 @@ pub fn draw(
         colors,
         coverages,
         marks,
-        m,
-        uniform,
-        cull,
-        scissor,
-        g,
-        vertices,
-        present,
-        indices,
+        draw,
     );
     DrawnAnswer::from(answer)
 }

@@ -37,10 +37,10 @@ pub extern "C" fn wb_draw(
     ensures answer { result ≡ drawn_answer (draw_answer (draw_from mode uniform cull scissor geometry vertices present indices) width height (before colors coverages marks)) }
     ensures frame { after colors coverages marks ≡ draw_frame (draw_from mode uniform cull scissor geometry vertices present indices) width height (before colors coverages marks) }
 {
-    c_frame::draw(
-        engine, width, height, colors, coverages, marks, mode, uniform, cull, scissor, geometry,
-        vertices, present, indices,
-    )
+    let draw = c_frame::draw_call(
+        mode, uniform, cull, scissor, geometry, vertices, present, indices,
+    );
+    c_frame::draw(engine, width, height, colors, coverages, marks, &draw)
 }
 
 #[unsafe(no_mangle)]
@@ -63,10 +63,10 @@ pub extern "C" fn wb_emitted_pixel(
 ) -> EmittedAnswer
     ensures { result ≡ pixel_answer (emitted_answer (draw_from mode uniform cull scissor geometry vertices present indices) width height (frame_of colors.now coverages.now marks.now) k) }
 {
-    c_frame::emitted::emitted_pixel(
-        engine, width, height, colors, coverages, marks, mode, uniform, cull, scissor, geometry,
-        vertices, present, indices, k,
-    )
+    let draw = c_frame::draw_call(
+        mode, uniform, cull, scissor, geometry, vertices, present, indices,
+    );
+    c_frame::emitted::emitted_pixel(engine, width, height, colors, coverages, marks, &draw, k)
 }
 
 #[unsafe(no_mangle)]
@@ -96,9 +96,11 @@ pub extern "C" fn wb_emitted_pixels(
     ensures masks { let d = draw_from mode uniform cull scissor geometry vertices present indices in
         new masks ≡ (emitted_run d width height (frame_of colors.now coverages.now marks.now) first (old pixels) (old masks)).masks }
 {
+    let draw = c_frame::draw_call(
+        mode, uniform, cull, scissor, geometry, vertices, present, indices,
+    );
     c_frame::emitted::emitted_pixels(
-        engine, width, height, colors, coverages, marks, mode, uniform, cull, scissor, geometry,
-        vertices, present, indices, first, pixels, masks,
+        engine, width, height, colors, coverages, marks, &draw, first, pixels, masks,
     )
 }
 

@@ -20,6 +20,7 @@ use c_answers::{Answer, ColorAnswer, CombinerAnswer, StrictAnswer};
 use c_draw::{FragmentAnswer, GeometryParts};
 use c_types::{Mode, Parts, Selectors};
 use combiner_inputs::{AlphaIn, ColorIn};
+use raster_pixel::Lists;
 use state::{CombinerUniform, Rgba};
 
 mod frames; // a draw, its emitted pixels, a word read and a run of words
@@ -257,7 +258,12 @@ pub extern "C" fn wb_admitted(
 ) -> bool
     ensures { result ≡ admitted_of (combiner_from combiner) (geometry_from geometry) vertices.now present.now indices.now }
 {
-    c_draw::admitted(combiner, geometry, vertices, present, indices)
+    let lists = Lists {
+        vertices,
+        present,
+        indices,
+    };
+    c_draw::admitted(combiner, geometry, &lists)
 }
 
 // Pixel (x, y) of triangle i, or of the rectangle.
@@ -276,7 +282,10 @@ pub extern "C" fn wb_pixel(
 ) -> FragmentAnswer
     ensures { result ≡ fragment_answer (emitted_from mode combiner cull geometry vertices.now present.now indices.now i y x) }
 {
-    c_draw::pixel(
-        mode, combiner, cull, geometry, vertices, present, indices, i, y, x,
-    )
+    let lists = Lists {
+        vertices,
+        present,
+        indices,
+    };
+    c_draw::pixel(mode, combiner, cull, geometry, &lists, i, y, x)
 }

@@ -23,13 +23,13 @@ pub use writeback_pixel::{
     blend, color_known, destination, encode, pack_color, pixel_bytes, supported,
 };
 
-// Vertices, with the method in_range, and which draws are admitted.
-pub use raster_pixel::{Geometry, Scissor, admitted};
+// Vertices, with the method in_range, and the lists of a draw, with the method admitted.
+pub use raster_pixel::{Geometry, Lists, Scissor};
 pub use raster_rectangle::Sides;
 pub use raster_vertex::Vertex;
 
 // The frame.
-pub use frame_draw::{Engine, draw};
+pub use frame_draw::{DrawCall, Engine, draw};
 pub use frame_emitted::{Emitted, Listed, emitted_pixel, emitted_pixels};
 pub use words_read::read_word;
 pub use words_run::read_words;
