@@ -88,7 +88,7 @@ module _ {cs ms ds ns : List ℕ} {size sizes : ℕ} (left : PartsLeft cs ms ds 
   module _
       (c_part m_part ds' ns' : List ℕ) (e : ds ≡ c_part ++ ds') (f : ns ≡ m_part ++ ns') (n : length c_part ≡ min size (length ds))
       (m : length m_part ≡ min sizes (length ns)) where
-    same_part : length c_part ≡ length m_part
+    pub same_part : length c_part ≡ length m_part
     same_part = n ∙ (λ i. min (left.one_size i) (left.long i)) ∙ sym m
 
     pub part_decides : (marks_ok c_part m_part && marks_ok ds' ns') ≡ marks_ok cs ms

@@ -72,18 +72,6 @@ fn see(marks: &[u8]) -> Seen
     }
 }
 
-// The one pass over all coverages, where every one is marked. It has no branch either.
-fn all_low(coverages: &[u8], marks: &[u8]) -> bool
-    requires { (length coverages.now ≡ length marks.now) × (every coverage_marked marks.now ≡ true) }
-    ensures { result ≡ every (at_most 7) coverages.now }
-{
-    let mut ok = true;
-    for i in 0..coverages.len() {
-        ok &= load::coverage(coverages, marks, i) <= COVERAGE;
-    }
-    ok
-}
-
 // An unmarked coverage is not loaded. The mark itself was checked before.
 #[tactic(auto, using(crate::proofs::Loads::mark_low))]
 fn mark_ok(coverages: &[u8], marks: &[u8], i: usize) -> bool
@@ -94,75 +82,94 @@ fn mark_ok(coverages: &[u8], marks: &[u8], i: usize) -> bool
     load::known_coverage(coverages, marks, i) <= COVERAGE
 }
 
-// One pixel after the other: for marks of which some, not all, mark a coverage. The one branch is whether a coverage may be loaded.
-fn mixed_ok(coverages: &[u8], marks: &[u8]) -> bool
-    requires { (length coverages.now ≡ length marks.now) × (every (at_most highest_mark) marks.now ≡ true) }
-    ensures { result ≡ marks_ok coverages.now marks.now }
-{
-    let mut ok = true;
-    for i in 0..marks.len() {
-        ok &= mark_ok(coverages, marks, i);
-    }
-    ok
+// The coverages and marks of a frame, or of a part of it.
+#[derive(Clone, Copy)]
+struct Marked<'a> {
+    coverages: &'a [u8],
+    marks: &'a [u8],
+    ghost alike: { length coverages.now ≡ length marks.now },
 }
 
-// The marks alone say whether no coverage may be loaded, every one, or only some.
-#[tactic(auto, unfolding(crate::specs::Finding::Tells))]
-fn look(coverages: &[u8], marks: &[u8]) -> Finding
-    requires { length coverages.now ≡ length marks.now }
-    ensures { Tells coverages.now marks.now result }
-{
-    let seen = see(marks);
-    if !seen.low {
-        return Finding::Bad;
+impl Marked<'_> {
+    // The one pass over all coverages, where every one is marked. It has no branch either.
+    fn all_low(&self) -> bool
+        requires { every coverage_marked self.now.marks.now ≡ true }
+        ensures { result ≡ every (at_most 7) self.now.coverages.now }
+    {
+        let mut ok = true;
+        for i in 0..self.coverages.len() {
+            ok &= load::coverage(self.coverages, self.marks, i) <= COVERAGE;
+        }
+        ok
     }
-    if seen.unmarked {
-        return Finding::Good;
-    }
-    if !seen.marked {
-        return Finding::Mixed;
-    }
-    if all_low(coverages, marks) {
-        Finding::Good
-    } else {
-        Finding::Bad
-    }
-}
 
-#[tactic(auto, unfolding(crate::specs::Finding::Tells))]
-fn part_ok(coverages: &[u8], marks: &[u8]) -> bool
-    requires { length coverages.now ≡ length marks.now }
-    ensures { result ≡ marks_ok coverages.now marks.now }
-{
-    match look(coverages, marks) {
-        Finding::Good => true,
-        Finding::Bad => false,
-        Finding::Mixed => mixed_ok(coverages, marks),
+    // One pixel after the other: for marks of which some, not all, mark a coverage. The one branch is whether a coverage may be loaded.
+    fn mixed_ok(&self) -> bool
+        requires { every (at_most highest_mark) self.now.marks.now ≡ true }
+        ensures { result ≡ marks_ok self.now.coverages.now self.now.marks.now }
+    {
+        let mut ok = true;
+        for i in 0..self.marks.len() {
+            ok &= mark_ok(self.coverages, self.marks, i);
+        }
+        ok
     }
-}
 
-// Part after part: known and unknown pixels mostly lie together, so that few parts are mixed.
-fn parts_ok(coverages: &[u8], marks: &[u8]) -> bool
-    requires { length coverages.now ≡ length marks.now }
-    ensures { result ≡ marks_ok coverages.now marks.now }
-{
-    for (some_coverages, some_marks) in coverages.chunks(PART).zip(marks.chunks(PART)) {
-        if !part_ok(some_coverages, some_marks) {
-            return false;
+    // The marks alone say whether no coverage may be loaded, every one, or only some.
+    #[tactic(auto, using(crate::proofs::Refusals::marks_high, crate::proofs::Refusals::marks_unmarked, crate::proofs::Refusals::marks_marked), unfolding(crate::specs::Finding::Tells))]
+    fn look(&self) -> Finding
+        ensures { Tells self.now.coverages.now self.now.marks.now result }
+    {
+        let seen = see(self.marks);
+        if !seen.low {
+            return Finding::Bad;
+        }
+        if seen.unmarked {
+            return Finding::Good;
+        }
+        if !seen.marked {
+            return Finding::Mixed;
+        }
+        if self.all_low() {
+            Finding::Good
+        } else {
+            Finding::Bad
         }
     }
-    true
-}
 
-#[tactic(auto, unfolding(crate::specs::Finding::Tells))]
-fn marks_ok(coverages: &[u8], marks: &[u8]) -> bool
-    requires { length coverages.now ≡ length marks.now }
-    ensures { result ≡ marks_ok coverages.now marks.now }
-{
-    match look(coverages, marks) {
-        Finding::Good => true,
-        Finding::Bad => false,
-        Finding::Mixed => parts_ok(coverages, marks),
+    #[tactic(auto, unfolding(crate::specs::Finding::Tells))]
+    fn part_ok(&self) -> bool
+        ensures { result ≡ marks_ok self.now.coverages.now self.now.marks.now }
+    {
+        match self.look() {
+            Finding::Good => true,
+            Finding::Bad => false,
+            Finding::Mixed => self.mixed_ok(),
+        }
+    }
+
+    // Part after part: known and unknown pixels mostly lie together, so that few parts are mixed.
+    fn parts_ok(&self) -> bool
+        ensures { result ≡ marks_ok self.now.coverages.now self.now.marks.now }
+    {
+        for (coverages, marks) in self.coverages.chunks(PART).zip(self.marks.chunks(PART)) {
+            let part = Marked { coverages, marks };
+            if !part.part_ok() {
+                return false;
+            }
+        }
+        true
+    }
+
+    #[tactic(auto, unfolding(crate::specs::Finding::Tells))]
+    fn marks_ok(&self) -> bool
+        ensures { result ≡ marks_ok self.now.coverages.now self.now.marks.now }
+    {
+        match self.look() {
+            Finding::Good => true,
+            Finding::Bad => false,
+            Finding::Mixed => self.parts_ok(),
+        }
     }
 }
 
@@ -184,7 +191,8 @@ pub fn frame_refusal(
     if !lengths_ok(colors.len(), coverages.len(), marks.len(), pixels as usize) {
         return Err(Refusal::Lengths);
     }
-    if !marks_ok(coverages, marks) {
+    let pixels = Marked { coverages, marks };
+    if !pixels.marks_ok() {
         return Err(Refusal::Marks);
     }
     Ok(())

@@ -3,10 +3,10 @@ use native.Mathlib.Omega.{arith}
 use Rattle.frame_pixel.specs.Marks.{coverage_marked}
 use Rattle.frame.specs.Finding.{at_most}
 use Rattle.frame.proofs.Refusals.{decides_next, decides_done, every_at}
-use Rattle.frame.proofs.refusal.all_low.Goals as goal
+use Rattle.frame.proofs.refusal.Marked.all_low.Goals as goal
 
 pub coverage-requires-clause-coverage_known : goal.coverage-requires-clause-coverage_known
-coverage-requires-clause-coverage_known c = every_at coverage_marked _ _ c.requires.1 (omega arith)
+coverage-requires-clause-coverage_known c = every_at coverage_marked _ _ c.requires (omega arith)
 
 pub loop-i-preserved : goal.loop-i-preserved
 loop-i-preserved c =

@@ -1,7 +1,0 @@
--- What was found and the pixels from i on decide.
-use Rattle.std.specs.Prelude.{◌≡◌, ◌&&◌, drop}
-use Rattle.frame.specs.Checks.{marks_ok}
-use Rattle.frame.proofs.refusal.mixed_ok.Given as goal
-
-abbrev pub invariant-loop-i : goal.invariant-loop-i
-invariant-loop-i l = (l.ok && marks_ok (drop l.i l.coverages) (drop l.i l.marks)) ≡ marks_ok l.coverages l.marks
