@@ -12,7 +12,7 @@ mod answers;
 mod call;
 mod tally;
 
-use replay_values::input::{SPACE, read_text};
+use replay_values::input::{each_line, with_text};
 use std::io;
 use std::io::Write;
 use tally::Tally;
@@ -20,21 +20,23 @@ use tally::Tally;
 // Counts every line of a text, and prints each that disagrees, and the counts.
 fn replay<W: Write>(out: &mut W, text: &[u8]) -> io::Result<()> {
     let mut tally = Tally::new();
-    for (line, number) in text.split_inclusive(|b| *b == b'\n').zip(1u64..) {
-        let line = line.strip_suffix(b"\n").unwrap_or(line);
-        if !tally.count(line) {
-            write!(out, "line {number}: ")?;
-            out.write_all(line)?;
-            out.write_all(b"\n")?;
+    each_line(text, |number, line| {
+        if tally.count(line) {
+            return Ok(());
         }
-    }
+        write!(out, "line {number}: ")?;
+        out.write_all(line)?;
+        out.write_all(b"\n")
+    })?;
     write!(out, "{tally}")
 }
 
 fn main(rt: HostRuntime) -> io::Result<()> {
     let mut out = io::writer(&rt);
-    match read_text(rt.alloc(), &mut rt.reader(), SPACE)? {
-        Some(text) => replay(&mut out, text.as_slice()),
-        None => out.write_all(b"input too long\n"),
-    }
+    with_text(
+        rt.alloc(),
+        &mut rt.reader(),
+        &mut out,
+        |out, text| replay(out, text),
+    )
 }

@@ -17,7 +17,7 @@ mod tally;
 use replay_calls::call::Call;
 use replay_calls::list::List;
 use replay_values::counts::Counts;
-use replay_values::input::{SPACE, read_text};
+use replay_values::input::{each_line, with_text};
 use std::io;
 use std::io::Write;
 use tally::Tally;
@@ -50,41 +50,39 @@ fn count<W: Write>(
 fn replay<W: Write>(out: &mut W, text: &[u8], engine: u8) -> io::Result<()> {
     let mut tally = Tally::default();
     let mut list: Option<List<'_>> = None;
-    for (line, number) in text.split_inclusive(|b| *b == b'\n').zip(1u64..) {
-        let line = line.strip_suffix(b"\n").unwrap_or(line);
+    each_line(text, |number, line| {
         if let (Some((call, arguments)), Some(list)) = (Call::named(line), &mut list) {
             let agreed = list.replay(call, arguments, engine);
             count(out, number, tally.of(call), agreed.answer, complaint(call))?;
-            count(
+            return count(
                 out,
                 number,
                 &mut tally.frames,
                 agreed.frame,
                 "another frame",
-            )?;
-        } else {
-            list = List::new(line);
-            if list.is_none() {
-                count(
-                    out,
-                    number,
-                    &mut tally.others,
-                    false,
-                    "no frame and no call",
-                )?;
-            }
+            );
         }
-    }
+        list = List::new(line);
+        if list.is_some() {
+            return Ok(());
+        }
+        count(
+            out,
+            number,
+            &mut tally.others,
+            false,
+            "no frame and no call",
+        )
+    })?;
     write!(out, "{tally}")
 }
 
 fn main(rt: HostRuntime) -> io::Result<()> {
     let mut out = io::writer(&rt);
-    let Some(text) = read_text(rt.alloc(), &mut rt.reader(), SPACE)? else {
-        return out.write_all(b"input too long\n");
-    };
-    out.write_all(b"the fast engine\n")?;
-    replay(&mut out, text.as_slice(), 0)?;
-    out.write_all(b"the slow engine\n")?;
-    replay(&mut out, text.as_slice(), 1)
+    with_text(rt.alloc(), &mut rt.reader(), &mut out, |out, text| {
+        out.write_all(b"the fast engine\n")?;
+        replay(out, text, 0)?;
+        out.write_all(b"the slow engine\n")?;
+        replay(out, text, 1)
+    })
 }

@@ -1,10 +1,10 @@
-// The text of a program's input.
+// The text of a program's input, and its lines.
 ghost use Rattle.std.specs.Prelude.{◌<◌, ◌≤◌, length, take, IfOk, IfSome};
 ghost use Rattle.std.specs.Io.KnownBytes.{Consumes, IsAtEnd};
 
 use std::alloc::Global;
 use std::io;
-use std::io::Read;
+use std::io::{Read, Write};
 
 // One more than the longest input that the programs take.
 pub const SPACE: usize = 524288;
@@ -40,6 +40,34 @@ pub fn read_text<R: Read>(alloc: Global, input: &mut R, space: usize) -> io::Res
     }
     text.truncate(n);
     Ok(Some(text))
+}
+
+// Hands on the whole input, or says that it is too long.
+pub fn with_text<R: Read, W: Write, F: FnOnce(&mut W, &[u8]) -> io::Result<()>>(
+    alloc: Global,
+    input: &mut R,
+    out: &mut W,
+    replay: F,
+) -> io::Result<()>
+    requires { F.IsAlwaysCallable replay }
+{
+    match read_text(alloc, input, SPACE)? {
+        Some(text) => replay(out, &text),
+        None => out.write_all(b"input too long\n"),
+    }
+}
+
+// Hands on each line of a text, without its line break, and its number from 1.
+pub fn each_line<'a, F: FnMut(u64, &'a [u8]) -> io::Result<()>>(
+    text: &'a [u8],
+    mut visit: F,
+) -> io::Result<()>
+    requires { F.IsAlwaysCallable visit }
+{
+    for (line, number) in text.split_inclusive(|b| *b == b'\n').zip(1u64..) {
+        visit(number, line.strip_suffix(b"\n").unwrap_or(line))?;
+    }
+    Ok(())
 }
 
 #[cfg(test)]

@@ -1,27 +1,13 @@
 // Values from a line's words, as the C interface takes them: a struct's fields in their order, a number or a truth value in a word,
 // a float by its bits, an enum by its number. A word that is out of its type's range breaks the line's form.
-ghost use Rattle.std.specs.Prelude.{◌≡◌};
-ghost use Rattle.std.specs.Float.{binary32};
-ghost use Rattle.std.specs.Float.Ieee.{of_bits};
-
 use crate::line::{FromLine, Line};
 use c_types::{Mode, Parts};
 use state::{CombinerUniform, Rgba};
-
-// `from_bits` is not defined at a NaN's bits, which are those above infinity's.
-pub fn float(bits: u32) -> f32
-    ensures { result ≡ of_bits binary32 bits }
-{
-    let magnitude = bits % 0x8000_0000;
-    if magnitude > 0x7f80_0000 {
-        return f32::NAN;
-    }
-    f32::from_bits(bits)
-}
+use std::num::f32_from_bits_with_nan;
 
 impl FromLine for f32 {
     fn from_line(line: &mut Line<'_>) -> Option<f32> {
-        Some(float(line.read()?))
+        Some(f32_from_bits_with_nan(line.read()?))
     }
 }
 
