@@ -23,7 +23,7 @@ fn held(line: &mut Line<'_>, number: u32, values: &[u64]) -> Option<bool> {
     Some(same)
 }
 
-// Here and below the fields of a frame and of a draw are spelled out: the C interface takes plain values.
+// Here and below the fields of a frame are spelled out: the C interface takes plain values.
 fn draw(line: &mut Line<'_>, engine: u8, frame: &mut Frame) -> Option<bool> {
     let draw: Draw = line.read()?;
     let answer = c_frame::draw(
@@ -33,14 +33,7 @@ fn draw(line: &mut Line<'_>, engine: u8, frame: &mut Frame) -> Option<bool> {
         frame.colors.as_mut_slice(),
         frame.coverages.as_mut_slice(),
         frame.marks.as_mut_slice(),
-        draw.mode,
-        draw.uniform,
-        draw.cull,
-        draw.scissor,
-        draw.geometry,
-        draw.vertices.as_slice(),
-        draw.present.as_slice(),
-        draw.indices.as_slice(),
+        &draw.call(),
     );
     held(line, answer.number, &[answer.pixels])
 }
@@ -70,14 +63,7 @@ fn mask(line: &mut Line<'_>, engine: u8, frame: &Frame) -> Option<bool> {
         frame.colors.as_slice(),
         frame.coverages.as_slice(),
         frame.marks.as_slice(),
-        draw.mode,
-        draw.uniform,
-        draw.cull,
-        draw.scissor,
-        draw.geometry,
-        draw.vertices.as_slice(),
-        draw.present.as_slice(),
-        draw.indices.as_slice(),
+        &draw.call(),
         line.read()?,
     );
     let values = [u64::from(answer.pixel), u64::from(answer.mask)];
@@ -97,14 +83,7 @@ fn masks(line: &mut Line<'_>, engine: u8, frame: &Frame) -> Option<bool> {
         frame.colors.as_slice(),
         frame.coverages.as_slice(),
         frame.marks.as_slice(),
-        draw.mode,
-        draw.uniform,
-        draw.cull,
-        draw.scissor,
-        draw.geometry,
-        draw.vertices.as_slice(),
-        draw.present.as_slice(),
-        draw.indices.as_slice(),
+        &draw.call(),
         first,
         pixels.as_mut_slice(),
         masks.as_mut_slice(),

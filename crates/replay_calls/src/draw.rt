@@ -2,6 +2,7 @@
 use arrayvec::ArrayVec;
 use c_draw::GeometryParts;
 use c_types::Mode;
+use frame_draw::DrawCall;
 use raster_pixel::Scissor;
 use replay_values::line::{FromLine, Line};
 use state::CombinerUniform;
@@ -17,6 +18,21 @@ pub struct Draw {
     pub vertices: ArrayVec<f32, 48>,
     pub present: ArrayVec<u8, 8>,
     pub indices: ArrayVec<u32, 48>,
+}
+
+impl Draw {
+    pub fn call(&self) -> DrawCall<'_> {
+        c_frame::draw_call(
+            self.mode,
+            self.uniform,
+            self.cull,
+            self.scissor,
+            self.geometry,
+            self.vertices.as_slice(),
+            self.present.as_slice(),
+            self.indices.as_slice(),
+        )
+    }
 }
 
 fn scissor(line: &mut Line<'_>) -> Option<Scissor> {

@@ -50,13 +50,13 @@ const BAYER_WORD: u64 = 0x2637_6273_1504_5140;
 // The largest depth of eighteen bits.
 const DEEPEST: u32 = 0x3ffff;
 
-// A channel's upper five bits, rounded up where the lower three are above the threshold.
+// A channel's upper five bits, rounded up where the lower three are above the threshold: what is added carries into the fourth bit there, and a sum that is
+// cut off at 255 gives 31. By a test instead, undithered words take a fifth longer.
 #[tactic(auto, unfolding(crate::specs::Color::pack_channel_of))]
 pub fn pack_channel(v: u8, threshold: u8) -> u8
     ensures { result ≡ pack_channel_of v threshold }
 {
-    let up = (v % 8 > threshold) as u8;
-    (v / 8 + up).min(31)
+    v.saturating_add(7u8.saturating_sub(threshold)) / 8
 }
 
 // A colour's word: five bits of each channel, and the coverage's top bit.
