@@ -2,22 +2,19 @@
 // scissor, and which of them are shown.
 #![tactic(auto)]
 
-ghost use Rattle.std.specs.Prelude.{◌≡◌, map, ◌+◌, ◌*◌, ◌<◌, length, IfSome};
+ghost use Rattle.std.specs.Prelude.{◌≡◌, map, IfSome};
 ghost use Rattle.raster_edges.specs.Limits.{TameTri};
-ghost use Rattle.raster_pixel.specs.Area.{Sized, area_of};
-ghost use Rattle.raster_pixel.specs.Admitted.{triangle_at, admitted_of};
 ghost use Rattle.raster_pixel.specs.Emitted.{shown, corner_of};
 ghost use Rattle.raster_pixel.specs.Near.{CornersNear};
 ghost use Rattle.raster_pixel.specs.SetUp.{set_up_of};
 
-use combiner::Combiner;
 use raster_edges::{Corner, Tri};
 use raster_rectangle::Sides;
 use raster_vertex::{Triangle, Vertex};
 use state::Rgba;
 
-pub mod lists; // the lists of a draw
-pub mod row; // the parts of a row
+pub mod lists; // the lists of a draw, and admitted
+pub mod row; // a row between its edges, and its parts
 pub mod shapes; // what an accepted draw draws
 pub mod view; // a frame's size and a draw's scissor
 
@@ -58,52 +55,6 @@ pub struct Fragment {
     pub mask: u8,
     pub color: Rgba,
     pub shade_alpha: f32,
-}
-
-// The pixels of a frame inside the scissor.
-pub fn scissor_area(scissor: Scissor, width: u32, height: u32) -> Area
-    requires { Sized scissor width height }
-    ensures { result ≡ area_of scissor width height }
-{
-    View {
-        scissor,
-        width,
-        height,
-    }
-    .area()
-}
-
-// Triangle i of an index list, if all its vertices are there.
-pub fn triangle_at(vertices: &[f32], present: &[u8], indices: &[u32], i: usize) -> Option<Triangle>
-    requires { 3 * i + 2 < length indices.now }
-    ensures { result ≡ triangle_at vertices.now present.now indices.now i }
-{
-    lists::triangle_at(
-        &Lists {
-            vertices,
-            present,
-            indices,
-        },
-        i,
-    )
-}
-
-// Every rectangle is admitted, and triangles of which none has a failing check.
-pub fn admitted(
-    combiner: Combiner,
-    geometry: Geometry,
-    vertices: &[f32],
-    present: &[u8],
-    indices: &[u32],
-) -> bool
-    ensures { result ≡ admitted_of combiner geometry vertices.now present.now indices.now }
-{
-    let lists = Lists {
-        vertices,
-        present,
-        indices,
-    };
-    lists.admitted(combiner, geometry)
 }
 
 // A vertex in quarter units.
