@@ -19,23 +19,16 @@ use Rattle.frame.proofs.Tests.{goes_on}
 
 -- ---- by what the mark says
 -- a coverage that is not known stands as 0: it is not too high for number 3, and it is what an unknown one is passed as
-pub mark_low : (m c : ℕ) {r : ℕ} → m ≤ highest_mark → r ≡ cond (coverage_marked m) c 0 → leb r 7 ≡ mark_ok m c
+pub mark_low : (m c : ℕ) {r : ℕ} → m ≤ highest_mark → r ≡ or_zero (coverage_of m c) → leb r 7 ≡ mark_ok m c
 unfolding mark_ok
 mark_low m c h e = goes_on (le-leb m highest_mark h) (ap (at_most 7) e ∙ go (coverage_marked m))
   where
-    go : (b : Bool) → leb (cond b c 0) 7 ≡ (not b || leb c 7)
+    go : (b : Bool) → leb (or_zero (cond b (Some c) None)) 7 ≡ (not b || leb c 7)
     go true = refl
     go false = refl
 
 pub marked_coverage : {b : Bool} (c : ℕ) → b ≡ true → c ≡ or_zero (cond b (Some c) None)
 marked_coverage c h = λ i. or_zero (cond (sym h i) (Some c) None)
-
-pub known_or_zero : (m c : ℕ) {r : ℕ} → r ≡ cond (coverage_marked m) c 0 → r ≡ or_zero (coverage_of m c)
-known_or_zero m c e = e ∙ go (coverage_marked m)
-  where
-    go : (b : Bool) → cond b c 0 ≡ or_zero (cond b (Some c) None)
-    go true = refl
-    go false = refl
 
 -- ---- what may be loaded
 pub coverage_low : {f : Frame} {p : ℕ} → Loadable f p → CoverageKnown f.marks p → get_or f.coverages p 0 ≤ 7

@@ -68,10 +68,7 @@ impl<'a> Frame<'a> {
         requires { pixel < length (seen self.now).marks }
         ensures { result ≡ color_at (pixel_at (seen self.now) pixel) }
     {
-        if frame_pixel::color_marked(self.marks[pixel]) {
-            return Some(load::color(self.colors, self.marks, pixel));
-        }
-        None
+        load::known_color(self.colors, self.marks, pixel)
     }
 
     // A pixel's coverage, if it is known.
@@ -80,12 +77,16 @@ impl<'a> Frame<'a> {
         ensures value { result ≡ coverage_at (pixel_at (seen self.now) pixel) }
         ensures low { or_zero result ≤ 7 }
     {
-        if frame_pixel::coverage_marked(self.marks[pixel]) {
-            return Some(load::coverage(self.coverages, self.marks, pixel));
-        }
-        None
+        load::known_coverage(self.coverages, self.marks, pixel)
     }
 }
+
+// What stands for a colour that is not known.
+pub const UNKNOWN: Colors = Colors {
+    red: 0,
+    green: 0,
+    blue: 0,
+};
 
 // The bytes of a pixel as far as they are known.
 pub fn known_pixel(colors: &[u8], coverages: &[u8], marks: &[u8], pixel: usize) -> Pixel
@@ -93,13 +94,13 @@ pub fn known_pixel(colors: &[u8], coverages: &[u8], marks: &[u8], pixel: usize) 
     ensures { result ≡ known_pixel (pixel_at (frame_of colors.now coverages.now marks.now) pixel) }
 {
     let mark = marks[pixel];
-    let color = load::known_color(colors, marks, pixel);
+    let color = load::known_color(colors, marks, pixel).unwrap_or(UNKNOWN);
     let coverage = load::known_coverage(coverages, marks, pixel);
     Pixel {
         red: color.red,
         green: color.green,
         blue: color.blue,
-        coverage,
+        coverage: coverage.unwrap_or(0),
         mark,
     }
 }

@@ -1,10 +1,11 @@
 // The loads of colour and coverage bytes. A byte of these two slices is loaded by `color` or by `coverage` and nowhere else. Both ask that the mark of the
 // byte's pixel says that it is known: their `marks` are there for that need alone.
-ghost use Rattle.std.specs.Prelude.{◌≡◌, ◌<◌, length, if◌then◌else◌, slice_index};
-ghost use Rattle.frame_pixel.specs.Marks.{color_marked, coverage_marked};
+ghost use Rattle.std.specs.Prelude.{◌≡◌, ◌<◌, length, Some, None, if◌then◌else◌, slice_index};
+ghost use Rattle.frame_pixel.specs.Marks.{color_marked, coverage_of};
 ghost use Rattle.frame.specs.Loads.{ColorKnown, CoverageKnown, ColorThere, CoverageThere};
-ghost use Rattle.frame.specs.Fits.{colors_at, colors_if};
+ghost use Rattle.frame.specs.Fits.{colors_at};
 
+use blender::Coverage;
 use frame_pixel::Colors;
 
 // The colour bytes of a pixel whose colour is known.
@@ -31,34 +32,30 @@ pub fn coverage(coverages: &[u8], marks: &[u8], pixel: usize) -> u8
     coverages[pixel]
 }
 
-// A pixel's colour bytes, if they are known; else zeros, and none is loaded.
-pub fn known_color(colors: &[u8], marks: &[u8], pixel: usize) -> Colors
+// A pixel's colour bytes, if they are known; else none is loaded.
+pub fn known_color(colors: &[u8], marks: &[u8], pixel: usize) -> Option<Colors>
     requires pixel_in_bounds { pixel < length marks.now }
     requires color_there { ColorThere colors.now marks.now pixel }
-    ensures { result ≡ colors_if (color_marked (slice_index marks.now pixel)) (colors_at colors.now pixel) }
+    ensures { result ≡ (if color_marked (slice_index marks.now pixel) then Some (colors_at colors.now pixel) else None) }
 {
     let mark = marks[pixel];
     let known = frame_pixel::color_marked(mark);
     if known {
-        return color(colors, marks, pixel);
+        return Some(color(colors, marks, pixel));
     }
-    Colors {
-        red: 0,
-        green: 0,
-        blue: 0,
-    }
+    None
 }
 
-// A pixel's coverage, if it is known; else 0, and it is not loaded.
-pub fn known_coverage(coverages: &[u8], marks: &[u8], pixel: usize) -> u8
+// A pixel's coverage, if it is known; else it is not loaded.
+pub fn known_coverage(coverages: &[u8], marks: &[u8], pixel: usize) -> Coverage
     requires pixel_in_bounds { pixel < length marks.now }
     requires coverage_there { CoverageThere coverages.now marks.now pixel }
-    ensures { result ≡ (if coverage_marked (slice_index marks.now pixel) then slice_index coverages.now pixel else 0) }
+    ensures { result ≡ coverage_of (slice_index marks.now pixel) (slice_index coverages.now pixel) }
 {
     let mark = marks[pixel];
     let known = frame_pixel::coverage_marked(mark);
     if known {
-        return coverage(coverages, marks, pixel);
+        return Some(coverage(coverages, marks, pixel));
     }
-    0
+    None
 }

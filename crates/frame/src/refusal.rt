@@ -79,7 +79,7 @@ fn mark_ok(coverages: &[u8], marks: &[u8], i: usize) -> bool
     requires there { CoverageThere coverages.now marks.now i }
     ensures { result ≡ mark_ok (slice_index marks.now i) (slice_index coverages.now i) }
 {
-    load::known_coverage(coverages, marks, i) <= COVERAGE
+    load::known_coverage(coverages, marks, i).unwrap_or(0) <= COVERAGE
 }
 
 // The coverages and marks of a frame, or of a part of it.

@@ -31,7 +31,8 @@ fn full_colors(colors: &[u8], marks: &[u8], full: Full, pixel: usize) -> Colors
     ensures { result ≡ (if full.layered then over_colors full.layer (colors_if (color_marked (slice_index marks.now pixel)) (colors_at colors.now pixel)) else full.own) }
 {
     if full.layered {
-        frame_pixel::over_colors(full.layer, frame::load::known_color(colors, marks, pixel))
+        let memory = frame::load::known_color(colors, marks, pixel);
+        frame_pixel::over_colors(full.layer, memory.unwrap_or(frame::UNKNOWN))
     } else {
         full.own
     }
