@@ -1,14 +1,13 @@
 -- What the slow engine emits is the emitted list of raster_pixel/specs/Emitted, pixel by pixel. Assumes nothing.
-use Prim.Native.Nat.{ℕ, ◌+◌, ◌*◌, ◌/◌, ◌≤◌}
-use mathlib.Core.Path.{◌≡◌, refl, sym, subst, ◌∙◌}
+use Prim.Native.Nat.{ℕ, ◌+◌, ◌*◌, ◌/◌}
+use mathlib.Core.Path.{◌≡◌, refl, sym, ◌∙◌}
 use mathlib.Core.Bool.{Bool, true, false, cond, ◌||◌}
 use mathlib.Core.List.{List, [], ◌∷◌, map}
-use native.Mathlib.Omega.{arith}
 use Rattle.std.specs.Prelude.{Option, None, Some}
 use lib.Dec.{eqb}
 use lib.IntN.{nat_abs}
 use lib.Ieee.{Float}
-use lib.ListN.{length, length-map}
+use lib.ListN.{length}
 use Rattle.state.specs.declared.RenderMode.{RenderMode}
 use Rattle.combiner.specs.declared.Combiner.{Combiner}
 use Rattle.combiner.specs.Combine.{color_of, full_shade}
@@ -26,7 +25,7 @@ use Rattle.raster_pixel.specs.declared.Fragment.{Fragment}
 use Rattle.raster_vertex.specs.declared.Triangle as vertices
 use Rattle.raster_pixel.specs.Admitted.{triangle_at}
 use Rattle.raster_pixel.specs.Area as area
-use Rattle.raster_pixel.specs.Emitted.{Emit, shown, covered, emits, inside, corner_of, triangle_fragment, triangle_emits, three_emits, rectangle_fragment, rectangle_emits, geometry_emits}
+use Rattle.raster_pixel.specs.Emitted.{Emit, shown, covered, emits, inside, corner_of, triangle_fragment, three_emits, rectangle_fragment, rectangle_emits, geometry_emits}
 use Rattle.raster_pixel.specs.Parts.{from}
 use Rattle.raster_pixel.specs.SetUp.{set_up_of, set_up_by, set_up_emits}
 use Rattle.raster_pixel.proofs.Inside.{inside_area}

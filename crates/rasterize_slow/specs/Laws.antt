@@ -1,4 +1,4 @@
--- Inner vocabulary. What pixels do, one list of them after another: the laws of a sink, for a frame and for slots.
+-- Inner vocabulary. What emitted pixels do to slots, and that a frame and slots keep the laws of a sink.
 use mathlib.Core.Path.{◌≡◌, refl, sym, ap, ◌∙◌}
 use mathlib.Core.List.{List, [], ◌++◌, map, map-append, foldl-append}
 use lib.ListN.{length}

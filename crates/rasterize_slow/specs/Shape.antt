@@ -1,6 +1,6 @@
 -- Inner vocabulary. A shape as the slow engine has it, sample by sample, and what its pixels emit. Definitions only; that these are the pixels of raster_pixel/specs/Emitted
 -- is proofs/Emitted.
-use Rattle.std.specs.Prelude.{ℕ, ◌+◌, ◌*◌, ◌/◌, ◌<◌, Bool, List, [], Float, length, Option, None, Some, if◌then◌else◌}
+use Rattle.std.specs.Prelude.{ℕ, ◌+◌, ◌*◌, ◌/◌, Bool, List, [], Float, length, Option, None, Some, if◌then◌else◌}
 use Rattle.state.specs.declared.RenderMode.{RenderMode}
 use Rattle.state.specs.declared.Rgba.{Rgba}
 use Rattle.combiner.specs.declared.Combiner.{Combiner}

@@ -8,7 +8,7 @@ ghost use Rattle.std.specs.Prelude.{◌≡◌, ◌/◌, ◌<◌, length, IfSome}
 ghost use Rattle.raster_pixel.specs.declared.Geometry.TheVariants.{Triangles};
 ghost use Rattle.raster_pixel.specs.Admitted.{triangle_at};
 ghost use Rattle.raster_pixel.specs.Near.{CornersNear};
-ghost use Rattle.raster_pixel.specs.Emitted.{geometry_emits};
+ghost use Rattle.raster_pixel.specs.Draw.{emitted_as};
 ghost use Rattle.raster_emitted.specs.Shapes.{geometry_masks};
 ghost use Rattle.raster_emitted.specs.Listed.{ListedIn};
 ghost use Rattle.frame_paint.specs.Pixel.{DrewOn};
@@ -25,9 +25,10 @@ use raster_rectangle::Sides;
 use raster_vertex::{Triangle, Vertex};
 use state::Rgba;
 
-pub mod sink; // where emitted pixels go
+mod sink; // where emitted pixels go
 
-// A triangle by its edges and its vertices from the top down, or a rectangle by its sides.
+// A triangle by its edges and its vertices from the top down, or a rectangle by its sides. That nothing overflows on the edges is a clause (TameShape) and no ghost field:
+// the definition of a draw makes edges of any corners, so that a field would ask a second type of edges.
 #[derive(Clone, Copy)]
 pub enum Shape {
     Triangle(Tri, [Vertex; 3]),
@@ -50,7 +51,8 @@ pub fn triangle(cull: bool, t: Triangle) -> Option<Shape>
 fn indexed(shapes: &Shapes, i: usize) -> Option<Shape>
     requires triangles { shapes.now.geometry ≡ Triangles }
     requires listed { i < length shapes.now.lists.indices.now / 3 }
-    ensures shape { result ≡ three_shape shapes.now.cull (triangle_at shapes.now.lists.vertices.now shapes.now.lists.present.now shapes.now.lists.indices.now i) }
+    ensures shape { let lists = shapes.now.lists in
+        result ≡ three_shape shapes.now.cull (triangle_at lists.vertices.now lists.present.now lists.indices.now i) }
     ensures tame { IfSome result TameShape }
 {
     let t = lists::triangle_at(&shapes.lists, i)?;
@@ -133,9 +135,9 @@ pub fn pixel(antialias: bool, combiner: Combiner, shape: Shape, y: u32, x: u32) 
     })
 }
 
-// ---- every pixel of every row
+// ---- every pixel of every row: each function answers how many pixels are emitted
 
-// Emits pixel (x, y) of a shape, if it has something to emit: how many are emitted.
+// Pixel (x, y) of a shape, if it has something to emit.
 fn visit_pixel<S: Sink>(sink: &mut S, shapes: &Shapes, shape: Shape, y: u32, x: u32) -> u64
     requires place { (x < (S.view sink.old).width) × (y < (S.view sink.old).height) }
     requires tame { TameShape shape }
@@ -181,7 +183,8 @@ fn visit_rows<S: Sink>(sink: &mut S, shapes: &Shapes, shape: Option<Shape>) -> u
 
 fn visit_triangles<S: Sink>(sink: &mut S, shapes: &Shapes) -> u64
     requires { shapes.now.geometry ≡ Triangles }
-    ensures sent { Sent (S.took shapes.now) (triangles_emits (walk_of (S.view sink.old) shapes.now) shapes.now.cull shapes.now.lists.vertices.now shapes.now.lists.present.now shapes.now.lists.indices.now) sink.old sink.new result }
+    ensures sent { let s = shapes.now in
+        Sent (S.took s) (triangles_emits (walk_of (S.view sink.old) s) s.cull s.lists.vertices.now s.lists.present.now s.lists.indices.now) sink.old sink.new result }
 {
     let mut n = 0;
     for i in 0..shapes.lists.indices.len() / 3 {
@@ -192,7 +195,8 @@ fn visit_triangles<S: Sink>(sink: &mut S, shapes: &Shapes) -> u64
 }
 
 fn visit<S: Sink>(sink: &mut S, shapes: &Shapes) -> u64
-    ensures sent { Sent (S.took shapes.now) (walk_emits (walk_of (S.view sink.old) shapes.now) shapes.now.cull shapes.now.lists.vertices.now shapes.now.lists.present.now shapes.now.lists.indices.now shapes.now.geometry) sink.old sink.new result }
+    ensures sent { let s = shapes.now in
+        Sent (S.took s) (walk_emits (walk_of (S.view sink.old) s) s.cull s.lists.vertices.now s.lists.present.now s.lists.indices.now s.geometry) sink.old sink.new result }
 {
     match shapes.geometry {
         Geometry::Nothing => 0,
@@ -206,10 +210,7 @@ fn visit<S: Sink>(sink: &mut S, shapes: &Shapes) -> u64
 
 // The pixels of an accepted draw on the lent frame, and their count.
 pub fn rasterize(target: &mut Target, shapes: &Shapes) -> u64
-    ensures drew { let s = shapes.now in
-        let view = target.old.view in
-        let emitted = geometry_emits s.mode s.combiner s.cull view.scissor view.width view.height s.lists.vertices.now s.lists.present.now s.lists.indices.now s.geometry in
-        DrewOn s.mode s.combiner emitted target.old target.new result }
+    ensures drew { DrewOn shapes.now.mode shapes.now.combiner (emitted_as target.old.view shapes.now) target.old target.new result }
 {
     visit(target, shapes)
 }

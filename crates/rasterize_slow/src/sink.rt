@@ -1,4 +1,4 @@
-// Where the pixels of a draw go: to a frame, by rules F1 to F5 one by one, or to slots.
+// Where the pixels of a draw go, one after the other: to a frame or to slots.
 ghost use Rattle.std.specs.Prelude.{◌≡◌, ◌*◌, ◌<◌, ◌++◌, [], List, length, map, Some};
 ghost use Rattle.raster_pixel.specs.declared.shapes.Shapes.{Shapes};
 ghost use Rattle.raster_pixel.specs.declared.view.View.{View};
@@ -26,13 +26,17 @@ pub trait Sink {
         requires place { pixel < (view self.old).width * (view self.old).height }
         ensures { took shapes.now (emits (Some fragment) pixel) self.old self.new };
 
+    // no pixels do nothing
     ghost took_none: { (d : Shapes) (s : Self) → took d [] s s };
 
+    // those of two lists in turn do what they do as one list
     ghost took_then: { (d : Shapes) (es fs : List Emit) (s t u : Self) → took d es s t → took d fs t u → took d (es ++ fs) s u };
 
+    // and the view stays
     ghost same_view: { (d : Shapes) (es : List Emit) (s t : Self) → took d es s t → view t ≡ view s };
 }
 
+// Rules F1 to F5 at each pixel's place.
 impl Sink for Target<'_> {
     ghost view = { λ t. t.view };
 

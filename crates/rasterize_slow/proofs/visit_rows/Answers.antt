@@ -1,50 +1,62 @@
 use Rattle.std.proofs.Common.{refl, sym, ap, subst, arith, ◌<◌}
 use Rattle.raster_pixel.specs.declared.Area.{Area}
 use Rattle.raster_pixel.specs.declared.view.View.{View}
+use Rattle.raster_pixel.specs.Parts.{from}
 use Rattle.raster_pixel.proofs.Inside.{bounded}
 use Rattle.rasterize_slow.specs.Shape.{walk_of, row_emits}
-use Rattle.rasterize_slow.proofs.Sending.{sent_as, sending_start, sending_more, sending_done, row_most, rows_most, area_same}
+use Rattle.rasterize_slow.proofs.Sending.{sent_as, sending_start, sending_more, row_most, rows_most, area_same}
 use Rattle.rasterize_slow.proofs.visit_rows.Goals as goal
 
 pub loop-y-init : goal.loop-y-init
 loop-y-init g c =
+    let d = c.args.shapes.now in
     let u = g.S.Sink.view c.args.sink.now in
-    let top = ap (λ (a : Area). a.top) (area_same c.view.ensures c.area-area.ensures.value) in
-    let b = bounded u.scissor u.width u.height refl in
-    record { from_top = omega (arith, top); to_bottom = omega (arith, top, b.down); sent = sending_start _ _ (omega (arith, top)) (g.met.S.Sink.took_none c.args.shapes.now c.args.sink.now) }
+    let top = ap (λ (r : Area). r.top) (area_same c.view.ensures c.area-area.ensures.value) in
+    record {
+      from_top = omega (arith, top);
+      to_bottom = omega (arith, top, (bounded u.scissor u.width u.height refl).down);
+      sent = sending_start (row_emits (walk_of u d) c.in-Some.shape) (walk_of u d).area.top (omega (arith, top)) (g.met.S.Sink.took_none d c.args.sink.now);
+    }
 
+-- the view is still the same
 pub visit_row-n-requires-clause-row : goal.visit_row-n-requires-clause-row
 visit_row-n-requires-clause-row g c =
+    let d = c.args.shapes.now in
     let u = g.S.Sink.view c.args.sink.now in
+    let es = from (row_emits (walk_of u d) c.in-Some.shape) (walk_of u d).area.top c.loop-y.y in
     let b = bounded u.scissor u.width u.height (area_same c.view.ensures c.area-area.ensures.value) in
-    subst (λ (v : View). c.loop-y.y < v.height) (sym (g.met.S.Sink.same_view _ _ _ _ c.loop-y.invariant.sent.taken)) (omega (arith, b.bottom_in))
+    subst (λ (v : View). c.loop-y.y < v.height) (sym (g.met.S.Sink.same_view d es c.args.sink.now c.loop-y.sink c.loop-y.invariant.sent.taken)) (omega (arith, b.bottom_in))
 
 pub overflow_add-n : goal.overflow_add-n
 overflow_add-n g c =
     let d = c.args.shapes.now in
     let u = g.S.Sink.view c.args.sink.now in
-    let b = bounded u.scissor u.width u.height refl in
     let i = c.loop-y.invariant in
+    let y = c.loop-y.y in
     omega (
       arith,
       i.to_bottom,
-      b.bottom_in,
+      (bounded u.scissor u.width u.height refl).bottom_in,
       u.sized.height_small,
       i.sent.count,
-      rows_most u d c.in-Some.shape (walk_of u d).area.top c.loop-y.y,
+      rows_most u d c.in-Some.shape (walk_of u d).area.top y,
       c.visit_row-n.ensures.sent.count,
-      row_most (g.S.Sink.view c.loop-y.sink) d c.in-Some.shape c.loop-y.y,
+      row_most (g.S.Sink.view c.loop-y.sink) d c.in-Some.shape y,
     )
 
 pub loop-y-preserved : goal.loop-y-preserved
 loop-y-preserved g c =
     let d = c.args.shapes.now in
+    let u = g.S.Sink.view c.args.sink.now in
     let i = c.loop-y.invariant in
-    let same = g.met.S.Sink.same_view _ _ _ _ i.sent.taken in
-    let bottom = ap (λ (a : Area). a.bottom) (area_same c.view.ensures c.area-area.ensures.value) in
+    let y = c.loop-y.y in
+    let top = (walk_of u d).area.top in
+    let es = from (row_emits (walk_of u d) c.in-Some.shape) top y in
+    let same = g.met.S.Sink.same_view d es c.args.sink.now c.loop-y.sink i.sent.taken in
+    let bottom = ap (λ (r : Area). r.bottom) (area_same c.view.ensures c.area-area.ensures.value) in
     record {
       from_top = omega (arith, i.from_top);
       to_bottom = omega (arith, bottom);
-      sent = sending_more _ _ (g.met.S.Sink.took_then d) i.from_top i.sent
-          (sent_as (ap (λ (v : View). row_emits (walk_of v d) c.in-Some.shape c.loop-y.y) same) c.visit_row-n.ensures.sent);
+      sent = sending_more (row_emits (walk_of u d) c.in-Some.shape) top (g.met.S.Sink.took_then d) i.from_top i.sent
+          (sent_as (ap (λ (v : View). row_emits (walk_of v d) c.in-Some.shape y) same) c.visit_row-n.ensures.sent);
     }
