@@ -22,6 +22,7 @@ use Rattle.combiner.specs.New.{new_of}
 use Rattle.raster_pixel.specs.declared.Scissor.{Scissor}
 use Rattle.raster_pixel.specs.Admitted.{admitted_of}
 use Rattle.raster_pixel.specs.Area.{Sized}
+use Rattle.raster_pixel.specs.Draw.{emitted_as}
 use Rattle.raster_pixel.specs.Ran.{Ran}
 use Rattle.frame.specs.Frame.{Frame, frame_of}
 use Rattle.frame.specs.Fits.{Fit}
@@ -31,7 +32,7 @@ use Rattle.raster_pixel.specs.declared.view.View.{View}
 use Rattle.raster_pixel.specs.declared.shapes.Shapes.{Shapes}
 use Rattle.frame_draw.specs.Checks.{scissor_ok, flags_ok, inputs_ok, entry_refusal}
 use Rattle.frame_draw.specs.Draw.{DrawArgs, Plan, emitted_by, admitted_plan, made_plan, refuse_or, plan_of, drawn_means, answer_by, frame_by, draw_answer, draw_frame}
-use Rattle.frame_draw.specs.Answered.{emitted_as, Accepted, Planned}
+use Rattle.frame_draw.specs.Answered.{Accepted, Planned}
 use Rattle.frame.proofs.Fits.{accepted}
 
 -- ---- the plan that the checks find

@@ -1,17 +1,13 @@
 -- Inner vocabulary. What the code's checks of a draw answer, as a plan. Definitions only.
-use Rattle.std.specs.Prelude.{ℕ, ◌*◌, ◌≡◌, List, Result, Ok, Err}
+use Rattle.std.specs.Prelude.{ℕ, ◌*◌, ◌≡◌, Result, Ok, Err}
 use Rattle.frame.specs.Frame.{Frame}
 use Rattle.frame.specs.Fits.{Fit}
 use Rattle.refused.specs.declared.Refusal.{Refusal}
 use Rattle.refused.specs.Numbers.{number_of}
-use Rattle.raster_pixel.specs.Emitted.{Emit, geometry_emits}
+use Rattle.raster_pixel.specs.Draw.{emitted_as}
 use Rattle.raster_pixel.specs.declared.view.View.{View}
 use Rattle.raster_pixel.specs.declared.shapes.Shapes.{Shapes}
 use Rattle.frame_draw.specs.Draw.{DrawArgs, Plan, plan_of}
-
--- the pixels that an accepted draw emits
-abbrev pub emitted_as : View → Shapes → List Emit
-emitted_as v s = geometry_emits s.mode s.combiner s.cull v.scissor v.width v.height s.lists.vertices.now s.lists.present.now s.lists.indices.now s.geometry
 
 -- an accepted draw: its plan, the mode that was asked for, and a frame of the view's size
 pub record Accepted (d : DrawArgs) (w h : ℕ) (f : Frame) (v : View) (s : Shapes) : Type 0 where

@@ -2,11 +2,12 @@
 #![tactic(auto)]
 
 ghost use Rattle.std.specs.Prelude.{◌≡◌};
+ghost use Rattle.raster_pixel.specs.Draw.{emitted_as};
 ghost use Rattle.frame.specs.Frame.{frame_of};
 ghost use Rattle.frame.specs.Lent.{before, after};
 ghost use Rattle.frame_paint.specs.Pixel.{DrewOn};
 ghost use Rattle.frame_draw.specs.Draw.{draw_of, drawn_means, draw_answer, draw_frame, Numbered};
-ghost use Rattle.frame_draw.specs.Answered.{Planned, emitted_as};
+ghost use Rattle.frame_draw.specs.Answered.{Planned};
 
 use combiner::Combiner;
 use frame_paint::Target;

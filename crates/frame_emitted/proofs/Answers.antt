@@ -18,6 +18,7 @@ use Rattle.refused.proofs.Numbers.{positive}
 use Rattle.combiner_resolved.specs.Resolved.{mixed_by, resolved_of}
 use Rattle.raster_pixel.specs.declared.view.View.{View}
 use Rattle.raster_pixel.specs.declared.shapes.Shapes.{Shapes}
+use Rattle.raster_pixel.specs.Draw.{emitted_as}
 use Rattle.raster_pixel.proofs.Counts.{geometry_most}
 use Rattle.raster_pixel.proofs.Parts.{each_length, each_at}
 use Rattle.raster_emitted.specs.Masked.{Masked, masked_of, no_pixel}
@@ -25,7 +26,7 @@ use Rattle.raster_emitted.proofs.Colorless.{geometry-masks}
 use Rattle.frame.specs.Checks.{or_else}
 use Rattle.frame.specs.Frame.{Frame}
 use Rattle.frame_draw.specs.Draw.{DrawArgs, Plan, plan_of, answer_by, draw_answer}
-use Rattle.frame_draw.specs.Answered.{emitted_as, Accepted}
+use Rattle.frame_draw.specs.Answered.{Accepted}
 use Rattle.frame_emitted.specs.declared.Emitted.{Emitted}
 use Rattle.frame_emitted.specs.declared.Listed.{Listed}
 use Rattle.frame_emitted.specs.Emitted.{PixelAnswer, without_pixel, pixel_of, pixel_means, NumberedPixel, pixel_by, emitted_answer}
