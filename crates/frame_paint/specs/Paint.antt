@@ -3,7 +3,6 @@ use Rattle.std.specs.Prelude.{◌≡◌, true, Option, unwrap_or}
 use Rattle.state.specs.declared.RenderMode.{RenderMode}
 use Rattle.state.specs.declared.Rgba.{Rgba}
 use Rattle.combiner.specs.declared.Combiner.{Combiner}
-pub use Rattle.combiner_resolved.specs.Resolved.{Mixed}
 use Rattle.blender.specs.Layer.{opaque_of}
 use Rattle.frame_pixel.specs.declared.Colors.{Colors}
 use Rattle.frame_pixel.specs.Coloring.{colors_of, own_colors}
