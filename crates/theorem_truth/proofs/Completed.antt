@@ -10,7 +10,7 @@ use Rattle.std.specs.Prelude.{Some, None}
 use Rattle.blender.specs.Blend.{or_zero}
 use Rattle.frame_pixel.specs.Marks.{highest_mark, color_marked, coverage_marked, mark_of}
 use Rattle.frame_pixel.specs.Knows.{KnowsPixel, AllKnownPixel}
-use Rattle.num_float.proofs.Tests.{never}
+use Rattle.std.proofs.lemmas.Bool.{false≢true}
 use Rattle.frame.specs.Frame.{Frame, pixel_at}
 use Rattle.frame.specs.Checks.{frame_refusal}
 use Rattle.frame.specs.Fits.{Fit}
@@ -98,7 +98,7 @@ module _ (f : Frame) (colors coverages : ℕ → ℕ) where
           colors = as_colors ∙ (accepted f w h e).fit.colors;
           coverages = as_coverages ∙ (accepted f w h e).fit.coverages;
           marks = as_marks ∙ (accepted f w h e).fit.marks;
-          low = λ p. filled_le (λ (p : ℕ). false) (λ (p : ℕ). mark_of true true) highest_mark 0 f.marks p p (omega arith) (λ t. never t) (omega arith);
+          low = λ p. filled_le (λ (p : ℕ). false) (λ (p : ℕ). mark_of true true) highest_mark 0 f.marks p p (omega arith) (λ t. absurd (false≢true t)) (omega arith);
           sound = λ p. grind (arith, byte p);
         }
       where

@@ -16,7 +16,7 @@ use Rattle.words_pack.specs.Writer.{color_supported, supported_of, pixel_bytes_o
 use Rattle.frame_pixel.specs.declared.Pixel.{Pixel}
 use Rattle.frame_pixel.specs.Marks.{color_marked, coverage_marked, coverage_of}
 use Rattle.frame_pixel.specs.Knows.{KnowsPixel}
-use Rattle.num_float.proofs.Tests.{never}
+use Rattle.std.proofs.lemmas.Bool.{false≢true}
 use Rattle.frame.specs.Frame.{Frame, pixel_at}
 use Rattle.frame.specs.Knows.{KnowsAtLeast}
 use Rattle.frame.specs.Checks.{or_else, frame_refusal}
@@ -72,7 +72,7 @@ module _ (w h : ℕ) {g f : Frame} (a : KnowsAtLeast w h g f) where
       go false s p q m e = TellsWord.same
       go true false p q m e = TellsWord.same
       go true true true true {v} m e = subst (λ (t : Bytes2). TellsWord (word_or 0 v) (word_or 0 t)) (e refl refl) TellsWord.same
-      go true true true false m e = never (m refl)
+      go true true true false m e = absurd (false≢true (m refl))
       go true true false true m e = TellsWord.more refl refl
       go true true false false m e = TellsWord.same
 

@@ -12,7 +12,7 @@ use Rattle.blender.specs.Mux.{mux_of}
 use Rattle.blender.specs.Coverage.{blends, clamp_of, destination_of}
 use Rattle.blender.specs.Known as known
 use Rattle.blender.specs.Blend.{factor_b, mixed_of, bytes_of, blend_of}
-use Rattle.num_float.proofs.Tests.{never}
+use Rattle.std.proofs.lemmas.Bool.{false≢true}
 use Rattle.frame_pixel.specs.declared.Pixel.{Pixel}
 use Rattle.frame_pixel.specs.Marks.{color_marked, coverage_marked, mark_of}
 use Rattle.frame_pixel.specs.Rules.{rule_f1, rule_f2, memory_of, rule_f3, fresh_coverage, rule_f5, coverage_at, known_after, colors_after, coverage_after, assembled, pixel_step}
@@ -21,7 +21,7 @@ use Rattle.theorem_truth.specs.Wrong.{step_if, without_f2, zeros_stored, stale_k
 
 -- everything is known of the one place, and nothing of the other
 more : (red coverage : ℕ) → KnowsPixel (all_known red coverage) nothing_known
-more red coverage = record { mark1 = λ t. refl; red = λ t. never t; green = λ t. refl; blue = λ t. refl; mark2 = λ t. refl; coverage = λ t. never t }
+more red coverage = record { mark1 = λ t. refl; red = λ t. absurd (false≢true t); green = λ t. refl; blue = λ t. refl; mark2 = λ t. refl; coverage = λ t. absurd (false≢true t) }
 
 -- ---- F2 left out: the white pixel is blended to black over a coverage that is not known, and stays white over the full one
 fog_step :
@@ -63,7 +63,7 @@ pub stale_wrong : Breaks stale_kept into_memory 1 (all_known 0 7) color_known
 stale_wrong = (before, λ h. let e : ◌≡◌ {A = ℕ} 255 0 = sym stale_step.2 ∙ h.red stale_step.0 ∙ stale_step.1 in omega arith)
   where
     before : KnowsPixel (all_known 0 7) color_known
-    before = record { mark1 = λ t. refl; red = λ t. refl; green = λ t. refl; blue = λ t. refl; mark2 = λ t. refl; coverage = λ t. never t }
+    before = record { mark1 = λ t. refl; red = λ t. refl; green = λ t. refl; blue = λ t. refl; mark2 = λ t. refl; coverage = λ t. absurd (false≢true t) }
 
 -- ---- count - 1 under antialias: one sample more was there
 count_step :
