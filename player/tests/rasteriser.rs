@@ -35,6 +35,6 @@ fn functions() {
     let rows = PAGE.lines().filter_map(|line| line.strip_prefix("| `"));
     let names: Vec<&str> = rows.map(|row| row.split_once('`').unwrap().0).collect();
     let code = CODE.lines().filter_map(|line| line.trim_start_matches("pub ").strip_prefix("fn "));
-    let functions: Vec<&str> = code.map(|line| line.split_once('(').unwrap().0).collect();
+    let functions: Vec<&str> = code.map(|line| line.split_once(['(', '<']).unwrap().0).collect();
     assert_eq!(names, functions);
 }

@@ -29,7 +29,7 @@ fn triangle(
         return None;
     }
     let shape = rasterize_slow::triangle(cull, t)?;
-    rasterize_slow::pixel(antialias, combiner, shape, y, x)
+    rasterize_slow::pixel(antialias, &combiner, &shape, y, x)
 }
 
 // Pixel (x, y) of triangle i, if there is one.
@@ -73,7 +73,7 @@ pub fn pixel(
     match geometry {
         Geometry::Nothing => None,
         Geometry::Rectangle(sides) => {
-            rasterize_slow::pixel(antialias, combiner, Shape::Rectangle(sides), y, x)
+            rasterize_slow::pixel(antialias, &combiner, &Shape::Rectangle(sides), y, x)
         }
         Geometry::Triangles => indexed(antialias, combiner, cull, lists, i, y, x),
     }

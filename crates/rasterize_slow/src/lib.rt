@@ -64,13 +64,13 @@ fn indexed(shapes: &Shapes, i: usize) -> Option<Shape>
 // Whether a shape holds a sample of pixel (x, y): on line 0 to 3 of its four, the left one, side 0, or the right one, side 1. On the odd lines both lie a quarter of a
 // pixel further right.
 #[tactic(auto, unfolding(crate::specs::Shape::sample_hit))]
-fn sample(shape: Shape, y: u32, x: u32, line: u32, side: u32) -> bool
-    requires { (x < 1024) × (y < 1024) × (line < 4) × (side < 2) × TameShape shape }
-    ensures { result ≡ sample_hit shape y x line side }
+fn sample(shape: &Shape, y: u32, x: u32, line: u32, side: u32) -> bool
+    requires { (x < 1024) × (y < 1024) × (line < 4) × (side < 2) × TameShape shape.now }
+    ensures { result ≡ sample_hit shape.now y x line side }
 {
     match shape {
         Shape::Triangle(t, _) => {
-            let span = raster_edges::line_at(t, y * 4 + line);
+            let span = raster_edges::line_at(*t, y * 4 + line);
             raster_edges::inside(span.l, span.r, x * 8 + (line & 1) * 2 + side * 4)
         }
         Shape::Rectangle(sides) => {
@@ -83,18 +83,18 @@ fn sample(shape: Shape, y: u32, x: u32, line: u32, side: u32) -> bool
 
 // The two samples of a line, the left one in the upper bit.
 #[tactic(auto, unfolding(crate::specs::Shape::pair_hit))]
-fn pair(shape: Shape, y: u32, x: u32, line: u32) -> u8
-    requires { (x < 1024) × (y < 1024) × (line < 4) × TameShape shape }
-    ensures { result ≡ pair_hit shape y x line }
+fn pair(shape: &Shape, y: u32, x: u32, line: u32) -> u8
+    requires { (x < 1024) × (y < 1024) × (line < 4) × TameShape shape.now }
+    ensures { result ≡ pair_hit shape.now y x line }
 {
     ((sample(shape, y, x, line, 0) as u8) << 1) | (sample(shape, y, x, line, 1) as u8)
 }
 
 // The eight samples: bit 7 is the upper line's left one.
 #[tactic(auto, unfolding(crate::specs::Shape::shape_mask))]
-fn mask(shape: Shape, y: u32, x: u32) -> u8
-    requires { (x < 1024) × (y < 1024) × TameShape shape }
-    ensures { result ≡ shape_mask shape y x }
+fn mask(shape: &Shape, y: u32, x: u32) -> u8
+    requires { (x < 1024) × (y < 1024) × TameShape shape.now }
+    ensures { result ≡ shape_mask shape.now y x }
 {
     let a = pair(shape, y, x, 0);
     let b = pair(shape, y, x, 1);
@@ -106,21 +106,27 @@ fn mask(shape: Shape, y: u32, x: u32) -> u8
 // ---- what a pixel emits
 
 // A triangle's shade at the pixel's upper left corner; a rectangle's is 1.0.
-fn shade(shape: Shape, y: u32, x: u32) -> Rgba
+fn shade(shape: &Shape, y: u32, x: u32) -> Rgba
     requires { (x < 1024) × (y < 1024) }
-    ensures { result ≡ shape_shade shape y x }
+    ensures { result ≡ shape_shade shape.now y x }
 {
     match shape {
-        Shape::Triangle(_, vertices) => raster_vertex::shade(vertices, x as usize, y as usize),
+        Shape::Triangle(_, vertices) => raster_vertex::shade(*vertices, x as usize, y as usize),
         Shape::Rectangle(_) => combiner::full_shade(),
     }
 }
 
 // Nothing if no sample is hit; without antialias, nothing unless the upper left one is.
 #[tactic(auto, unfolding(crate::specs::Shape::shape_fragment))]
-pub fn pixel(antialias: bool, combiner: Combiner, shape: Shape, y: u32, x: u32) -> Option<Fragment>
-    requires { (x < 1024) × (y < 1024) × TameShape shape }
-    ensures { result ≡ shape_fragment antialias combiner shape y x }
+pub fn pixel(
+    antialias: bool,
+    combiner: &Combiner,
+    shape: &Shape,
+    y: u32,
+    x: u32,
+) -> Option<Fragment>
+    requires { (x < 1024) × (y < 1024) × TameShape shape.now }
+    ensures { result ≡ shape_fragment antialias combiner.now shape.now y x }
 {
     let mask = mask(shape, y, x);
     if !raster_pixel::is_shown(antialias, mask) {
@@ -138,12 +144,12 @@ pub fn pixel(antialias: bool, combiner: Combiner, shape: Shape, y: u32, x: u32) 
 // ---- every pixel of every row: each function answers how many pixels are emitted
 
 // Pixel (x, y) of a shape, if it has something to emit.
-fn visit_pixel<S: Sink>(sink: &mut S, shapes: &Shapes, shape: Shape, y: u32, x: u32) -> u64
+fn visit_pixel<S: Sink>(sink: &mut S, shapes: &Shapes, shape: &Shape, y: u32, x: u32) -> u64
     requires place { (x < (S.view sink.old).width) × (y < (S.view sink.old).height) }
-    requires tame { TameShape shape }
-    ensures sent { Sent (S.took shapes.now) (pixel_emits (walk_of (S.view sink.old) shapes.now) shape y x) sink.old sink.new result }
+    requires tame { TameShape shape.now }
+    ensures sent { Sent (S.took shapes.now) (pixel_emits (walk_of (S.view sink.old) shapes.now) shape.now y x) sink.old sink.new result }
 {
-    let Some(fragment) = pixel(shapes.mode.antialias, shapes.combiner, shape, y, x) else {
+    let Some(fragment) = pixel(shapes.mode.antialias, &shapes.combiner, shape, y, x) else {
         return 0;
     };
     let number = y * sink.view().width + x;
@@ -151,10 +157,10 @@ fn visit_pixel<S: Sink>(sink: &mut S, shapes: &Shapes, shape: Shape, y: u32, x: 
     1
 }
 
-fn visit_row<S: Sink>(sink: &mut S, shapes: &Shapes, shape: Shape, y: u32) -> u64
+fn visit_row<S: Sink>(sink: &mut S, shapes: &Shapes, shape: &Shape, y: u32) -> u64
     requires row { y < (S.view sink.old).height }
-    requires tame { TameShape shape }
-    ensures sent { Sent (S.took shapes.now) (row_emits (walk_of (S.view sink.old) shapes.now) shape y) sink.old sink.new result }
+    requires tame { TameShape shape.now }
+    ensures sent { Sent (S.took shapes.now) (row_emits (walk_of (S.view sink.old) shapes.now) shape.now y) sink.old sink.new result }
 {
     let area = sink.view().area();
     let mut n = 0;
@@ -174,7 +180,7 @@ fn visit_rows<S: Sink>(sink: &mut S, shapes: &Shapes, shape: Option<Shape>) -> u
     let area = sink.view().area();
     let mut n = 0;
     for y in area.top..area.bottom {
-        n += visit_row(sink, shapes, shape, y);
+        n += visit_row(sink, shapes, &shape, y);
     }
     n
 }

@@ -1,5 +1,5 @@
 -- The corners of a triangle whose vertices are in range are near enough for the edges.
-use Rattle.std.proofs.Common.{◌≡◌, not, false, None, sym, ap, subst, ◌∙◌, rules}
+use Rattle.std.proofs.Common.{◌≡◌, not, false, None, sym, ap, ◌∙◌, rules}
 use Rattle.raster_vertex.specs.declared.Triangle.{Triangle}
 use Rattle.raster_vertex.specs.declared.Vertex.{Vertex}
 use Rattle.raster_vertex.specs.Range.{in_range}

@@ -8,7 +8,7 @@ pub returns : goal.returns
 unfolding shape_mask
 returns c =
     let s = c.args in
-    let hit = pair_hit s.shape s.y s.x in
-    let small = pair_lt s.shape s.y s.x in
+    let hit = pair_hit s.shape.now s.y s.x in
+    let small = pair_lt s.shape.now s.y s.x in
     (λ i. bits (c.pair-a.ensures i) (c.pair-b.ensures i) (c.pair-c.ensures i) (c.pair-d.ensures i))
     ∙ four_pairs (hit 0) (hit 1) (hit 2) (hit 3) (small 0) (small 1) (small 2) (small 3)

@@ -16,7 +16,7 @@ loop-x-init g c =
     record {
       from_left = omega (arith, left);
       to_right = omega (arith, left, (bounded u.scissor u.width u.height refl).across);
-      sent = sending_start (pixel_emits (walk_of u d) a.shape a.y) (walk_of u d).area.left (omega (arith, left)) (g.met.S.Sink.took_none d a.sink.now);
+      sent = sending_start (pixel_emits (walk_of u d) a.shape.now a.y) (walk_of u d).area.left (omega (arith, left)) (g.met.S.Sink.took_none d a.sink.now);
     }
 
 -- the view is still the same
@@ -25,7 +25,7 @@ visit_pixel-n-requires-clause-place g c =
     let a = c.args in
     let d = a.shapes.now in
     let u = g.S.Sink.view a.sink.now in
-    let es = from (pixel_emits (walk_of u d) a.shape a.y) (walk_of u d).area.left c.loop-x.x in
+    let es = from (pixel_emits (walk_of u d) a.shape.now a.y) (walk_of u d).area.left c.loop-x.x in
     let b = bounded u.scissor u.width u.height (area_same c.view.ensures c.area-area.ensures.value) in
     subst (λ (v : View). (c.loop-x.x < v.width) × (a.y < v.height)) (sym (g.met.S.Sink.same_view d es a.sink.now c.loop-x.sink c.loop-x.invariant.sent.taken)) (omega (arith, b.right_in), c.requires.row)
 
@@ -38,9 +38,9 @@ overflow_add-n g c =
     omega (
       arith,
       c.loop-x.invariant.sent.count,
-      pixels_most u d a.shape a.y (walk_of u d).area.left x,
+      pixels_most u d a.shape.now a.y (walk_of u d).area.left x,
       c.visit_pixel-n.ensures.sent.count,
-      pixel_most (g.S.Sink.view c.loop-x.sink) d a.shape a.y x,
+      pixel_most (g.S.Sink.view c.loop-x.sink) d a.shape.now a.y x,
     )
 
 pub loop-x-preserved : goal.loop-x-preserved
@@ -51,14 +51,14 @@ loop-x-preserved g c =
     let i = c.loop-x.invariant in
     let x = c.loop-x.x in
     let left = (walk_of u d).area.left in
-    let es = from (pixel_emits (walk_of u d) a.shape a.y) left x in
+    let es = from (pixel_emits (walk_of u d) a.shape.now a.y) left x in
     let same = g.met.S.Sink.same_view d es a.sink.now c.loop-x.sink i.sent.taken in
     let right = ap (λ (r : Area). r.right) (area_same c.view.ensures c.area-area.ensures.value) in
     record {
       from_left = omega (arith, i.from_left);
       to_right = omega (arith, right);
-      sent = sending_more (pixel_emits (walk_of u d) a.shape a.y) left (g.met.S.Sink.took_then d) i.from_left i.sent
-          (sent_as (ap (λ (v : View). pixel_emits (walk_of v d) a.shape a.y x) same) c.visit_pixel-n.ensures.sent);
+      sent = sending_more (pixel_emits (walk_of u d) a.shape.now a.y) left (g.met.S.Sink.took_then d) i.from_left i.sent
+          (sent_as (ap (λ (v : View). pixel_emits (walk_of v d) a.shape.now a.y x) same) c.visit_pixel-n.ensures.sent);
     }
 
 pub returns : goal.returns
@@ -66,4 +66,4 @@ returns g c =
     let a = c.args in
     let u = g.S.Sink.view a.sink.now in
     let right = ap (λ (r : Area). r.right) (area_same c.view.ensures c.area-area.ensures.value) in
-    record { sent = sending_done (pixel_emits (walk_of u a.shapes.now) a.shape a.y) (walk_of u a.shapes.now).area.left (omega (arith, right, c.loop-x.invariant.to_right)) c.loop-x.invariant.sent }
+    record { sent = sending_done (pixel_emits (walk_of u a.shapes.now) a.shape.now a.y) (walk_of u a.shapes.now).area.left (omega (arith, right, c.loop-x.invariant.to_right)) c.loop-x.invariant.sent }

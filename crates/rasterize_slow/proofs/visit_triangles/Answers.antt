@@ -37,4 +37,4 @@ loop-i-preserved g c =
     let emitted : ℕ → List Emit = λ i. shape_emits walk (shape_at d i) in
     let same = g.met.S.Sink.same_view d (from emitted 0 c.loop-i.i) c.args.sink.now c.loop-i.sink c.loop-i.invariant.taken in
     sending_more emitted 0 (g.met.S.Sink.took_then d) (omega arith) c.loop-i.invariant
-    (sent_as (ap (λ (v : View). shape_emits (walk_of v d) c.indexed-shape.result) same ∙ ap (shape_emits walk) c.indexed-shape.ensures.shape) c.visit_rows-n.ensures.sent)
+    (sent_as (ap (λ (v : View). shape_emits (walk_of v d) c.indexed-shape.result) same ∙ ap (shape_emits walk) {y = shape_at d c.loop-i.i} c.indexed-shape.ensures.shape) c.visit_rows-n.ensures.sent)

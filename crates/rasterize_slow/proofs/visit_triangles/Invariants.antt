@@ -7,7 +7,7 @@ use Rattle.rasterize_slow.proofs.visit_triangles.Given as goal
 
 abbrev pub invariant-loop-i : goal.invariant-loop-i
 invariant-loop-i g l =
-    let d = l.shapes in
+    let d = l.fn.shapes in
     Sent (g.S.Sink.took d)
     (from (λ (j : ℕ). shape_emits (walk_of (g.S.Sink.view l.initial.sink) d) (three_shape d.cull (triangle_at d.lists.vertices.now d.lists.present.now d.lists.indices.now j))) 0 l.i)
     l.initial.sink l.sink l.n
