@@ -17,7 +17,8 @@ pub mod layer; // pixels whose blend is a sum with the memory's colour, or store
 // A pixel's coverage in memory, 0 to 7 for 1 to 8 samples, if it is known.
 pub type Coverage = Option<u8>;
 
-// An emitted pixel: its combined colour, its shade alpha and its number of samples.
+// An emitted pixel: its combined colour, its shade alpha and its number of samples. That these are 1 to 8 is a clause and no ghost field, since definitions
+// speak of a Source of any mask.
 #[derive(Clone, Copy)]
 pub struct Source {
     pub color: Rgba,

@@ -1,4 +1,5 @@
-// The C interface's single-pixel calls, over plain values. Crate exports gives them their C names.
+// The C interface's single-pixel calls, over plain values. Crate exports gives them their C names. C has no Option: a flag stands beside a coverage and a
+// literal word that may not be there.
 #![tactic(auto)]
 
 ghost use Rattle.std.specs.Prelude.{◌≡◌};

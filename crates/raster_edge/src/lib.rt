@@ -10,7 +10,8 @@ ghost use Rattle.raster_edge.specs.Bound.{outer_of, tip_of, outermost_of, clamp_
 
 use raster_range::Range;
 
-// An edge: its x on quarter line `base`, in 2^-16 of a pixel, and its step for each whole line in 2^-16 of a pixel.
+// An edge: its x on quarter line `base`, in 2^-16 of a pixel, and its step for each whole line in 2^-16 of a pixel. That it is tame, and so never overflows, is
+// a clause and no ghost field, since the definition of what a draw emits makes edges of any corners.
 #[derive(Clone, Copy)]
 pub struct Edge {
     pub start: i64,

@@ -15,7 +15,7 @@ ghost use Rattle.raster_range.specs.Inner.{Inner};
 use raster_edge::{Edge, Span};
 use raster_range::Range;
 
-// A corner of a triangle, in quarters of a pixel.
+// A corner of a triangle, in quarters of a pixel. That it is near is a clause and no ghost field: a vertex of any floats has corners.
 #[derive(Clone, Copy)]
 pub struct Corner {
     pub x: i64,
@@ -23,7 +23,7 @@ pub struct Corner {
 }
 
 // The edges of a triangle or of a rectangle. It covers the quarter lines from top to end; the upper edge gives way to the lower at mid.
-// The major edge is the left one if `rightward`.
+// The major edge is the left one if `rightward`. That each is tame is a clause, as for one edge.
 #[derive(Clone, Copy)]
 pub struct Tri {
     pub major: Edge,
