@@ -31,7 +31,8 @@ use Rattle.frame_emitted.specs.declared.Emitted.{Emitted}
 use Rattle.frame_emitted.specs.declared.Listed.{Listed}
 use Rattle.frame_emitted.specs.Emitted.{PixelAnswer, without_pixel, pixel_of, pixel_means, NumberedPixel, pixel_by, emitted_answer}
 use Rattle.frame_emitted.specs.Run.{pixels_means, NumberedPixels, singles, pixels_by, emitted_run}
-use Rattle.frame_emitted.specs.Places.{masks_as, largest_count, FoundAt, ListedAll}
+use Rattle.raster_emitted.specs.Shapes.{masks_as}
+use Rattle.frame_emitted.specs.Places.{largest_count, FoundAt, ListedAll}
 use Rattle.frame_emitted.proofs.Ends.{pixel_there}
 
 -- ---- what an accepted draw emits

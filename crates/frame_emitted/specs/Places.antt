@@ -1,15 +1,8 @@
 -- Inner vocabulary. The pixels of a draw in their slots, as the code finds them. Definitions only.
 use Rattle.std.specs.Prelude.{ℕ, ◌+◌, ◌<◌, ◌≡◌, List, length, Option, Some, None, slice_index_or}
-use Rattle.raster_pixel.specs.declared.view.View.{View}
-use Rattle.raster_pixel.specs.declared.shapes.Shapes.{Shapes}
-use Rattle.raster_emitted.specs.Shapes.{geometry_masks}
 use Rattle.raster_emitted.specs.Masked.{Masked, no_pixel}
 use Rattle.raster_emitted.specs.Filled.{places_of, slot_at}
 use Rattle.frame_emitted.specs.declared.Emitted.{Emitted}
-
--- the pixels of an accepted draw, without their colours
-abbrev pub masks_as : View → Shapes → List Masked
-masks_as v s = geometry_masks s.mode.antialias s.cull v.scissor v.width v.height s.lists.vertices.now s.lists.present.now s.lists.indices.now s.geometry
 
 -- the largest count of 64 bits
 abbrev pub largest_count : ℕ

@@ -4,13 +4,14 @@
 
 ghost use Rattle.std.specs.Prelude.{◌≡◌, ◌≤◌, length, Ok, slice_index_or};
 ghost use Rattle.raster_emitted.specs.Listed.{ListedIn};
+ghost use Rattle.raster_emitted.specs.Shapes.{masks_as};
 ghost use Rattle.raster_emitted.specs.Masked.{no_pixel};
 ghost use Rattle.frame.specs.Frame.{frame_of};
 ghost use Rattle.frame.specs.Lent.{old, new};
 ghost use Rattle.frame_draw.specs.Draw.{draw_of};
 ghost use Rattle.frame_emitted.specs.Emitted.{pixel_means, pixel_of, emitted_answer, NumberedPixel};
 ghost use Rattle.frame_emitted.specs.Run.{pixels_means, emitted_run, NumberedPixels};
-ghost use Rattle.frame_emitted.specs.Places.{masks_as, FoundAt, ListedAll};
+ghost use Rattle.frame_emitted.specs.Places.{FoundAt, ListedAll};
 
 use frame_draw::{DrawCall, Engine};
 use raster_emitted::Slots;

@@ -47,6 +47,11 @@ module _ (number : ℕ → ℕ) {before : List ℕ} where
         go i a b (yes q) = subst (λ (j : ℕ). get_or (set ps hi p) j 0 ≡ number j) (sym q) (get_or-set_same ps hi p 0 h ∙ e)
         go i a b (no n) = get_or-set_other ps hi i p 0 n ∙ d.written i a (omega arith)
 
+module _ (number : ℕ → ℕ) (mask : ℕ) {before : Places} where
+  filled_none : (lo : ℕ) → Filled number mask lo lo before before
+  filled_none lo =
+      record { pixels = refl; masks = refl; written = λ i p q. absurd (omega arith); below = λ i p. refl; above = λ i p. refl }
+
 -- the slots of a run: the first is that of the run's first pixel, or slot 0, where the run's first pixels have none
 module _ (v : Window) (p count : ℕ) {n mask : ℕ} {before after : Places} where
   pub run_listed :
@@ -66,7 +71,9 @@ module _ (v : Window) (p count : ℕ) {n mask : ℕ} {before after : Places} whe
         later = λ i l a. d.above i (omega arith);
       }
 
-module _ (number : ℕ → ℕ) (mask : ℕ) {before : Places} where
-  pub filled_none : (lo : ℕ) → Filled number mask lo lo before before
-  filled_none lo =
-      record { pixels = refl; masks = refl; written = λ i p q. absurd (omega arith); below = λ i p. refl; above = λ i p. refl }
+-- a run that has no slots
+module _ (v : Window) (mask p count : ℕ) {n : ℕ} {before : Places} where
+  pub run_unlisted :
+      {m : ℕ} → n ≤ v.limit → m ≡ min v.limit (n + count) → min (length before.masks) (n - v.first) ≡ min (length before.masks) (m - v.first)
+      → ListedPart v (run_masks mask p (p + count)) n m before before
+  run_unlisted h em e = run_listed v p count h em refl e refl (filled_none _ mask _)

@@ -13,6 +13,8 @@ use Rattle.raster_edges.specs.Sample.{mask_of}
 use Rattle.raster_rectangle.specs.declared.Sides.{Sides}
 use Rattle.raster_rectangle.specs.Rectangle.{rect_mask}
 use Rattle.raster_pixel.specs.declared.Scissor.{Scissor}
+use Rattle.raster_pixel.specs.declared.shapes.Shapes.{Shapes}
+use Rattle.raster_pixel.specs.declared.view.View.{View}
 use Rattle.raster_pixel.specs.declared.Geometry.{Geometry}
 use Rattle.raster_pixel.specs.declared.Geometry.TheVariants.{Nothing, Triangles, Rectangle}
 use Rattle.raster_pixel.specs.Admitted.{triangle_at}
@@ -63,3 +65,7 @@ geometry_masks antialias cull s w h vs ps is Triangles = triangles_masks antiali
 abbrev pub set_up_masks : Bool → Scissor → ℕ → ℕ → Option (Tri × List Vertex) → List Masked
 set_up_masks antialias s w h None = []
 set_up_masks antialias s w h (Some p) = shape_masks antialias p.0 s w h
+
+-- those of an accepted draw
+abbrev pub masks_as : View → Shapes → List Masked
+masks_as v s = geometry_masks s.mode.antialias s.cull v.scissor v.width v.height s.lists.vertices.now s.lists.present.now s.lists.indices.now s.geometry

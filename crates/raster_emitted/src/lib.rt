@@ -4,7 +4,7 @@
 
 ghost use Rattle.std.specs.Prelude.{◌≡◌};
 ghost use Rattle.raster_pixel.specs.declared.Geometry.TheVariants.{Triangles};
-ghost use Rattle.raster_emitted.specs.Shapes.{rectangle_masks, triangles_masks, geometry_masks};
+ghost use Rattle.raster_emitted.specs.Shapes.{rectangle_masks, triangles_masks, masks_as};
 ghost use Rattle.raster_emitted.specs.Listed.{ListedIn};
 
 use crate::rows::list_shape;
@@ -39,8 +39,7 @@ fn list_rectangle(slots: &mut Slots, view: View, antialias: bool, sides: Sides)
 
 // The pixels of an accepted draw: they are counted, and those that are asked for are in their slots.
 pub fn list_pixels(slots: &mut Slots, view: View, shapes: &Shapes)
-    ensures { let s = shapes.now in
-        ListedIn (geometry_masks s.mode.antialias s.cull view.scissor view.width view.height s.lists.vertices.now s.lists.present.now s.lists.indices.now s.geometry) slots.old slots.new }
+    ensures { ListedIn (masks_as view shapes.now) slots.old slots.new }
 {
     match shapes.geometry {
         Geometry::Nothing => {}

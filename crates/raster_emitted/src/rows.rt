@@ -41,9 +41,6 @@ fn list_row(slots: &mut Slots, line: &Line, start: u32, end: u32)
     let mut x = start;
     // A step is a pixel or a run of them: no range has such steps.
     while x < end {
-        if slots.count == slots.limit {
-            return;
-        }
         let next = line.row.part_end(true, x, end);
         list_part(slots, line, x, next);
         x = next;

@@ -24,10 +24,15 @@ impl Slots<'_> {
         ensures { ListedIn (run_masks mask pixel (pixel + more)) self.old self.new }
     {
         let before = self.count;
+        let end = counted(self.limit, before, more);
+        self.count = end;
+        // Of a run before the first slot the count alone tells, without the slices: a late pixel is found faster.
+        if end <= self.first {
+            return;
+        }
         let slots = self.masks.len();
-        self.count = counted(self.limit, before, more);
         let start = slots_before(self.first, before, slots);
-        let stop = slots_before(self.first, self.count, slots);
+        let stop = slots_before(self.first, end, slots);
         if start == stop {
             return;
         }

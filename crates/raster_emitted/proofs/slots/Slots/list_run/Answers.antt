@@ -1,18 +1,18 @@
 -- The slots of the run, if it has any.
 use mathlib.Core.Path.{refl}
 use native.Mathlib.Omega.{arith}
-use Rattle.raster_emitted.proofs.Runs.{filled_none, run_listed}
+use Rattle.raster_emitted.proofs.Runs.{run_listed, run_unlisted}
 use Rattle.raster_emitted.proofs.slots.Slots.list_run.Goals as goal
+
+pub returns-then-end-self : goal.returns-then-end-self
+returns-then-end-self c =
+    let part = run_unlisted _ _ _ _ c.args.self.now.within c.counted-end.ensures (omega (arith, c.counted-end.ensures, c.args.self.now.within, c.if-end-self.true)) in
+    record { first = refl; limit = refl; pixels = refl; masks = refl; part = part }
 
 pub returns-then-start-stop : goal.returns-then-start-stop
 returns-then-start-stop c =
-    record {
-      first = refl;
-      limit = refl;
-      pixels = refl;
-      masks = refl;
-      part = run_listed _ _ _ c.args.self.now.within c.counted-self.ensures c.slots_before-start.ensures (omega (arith, c.if-start-stop.true, c.slots_before-stop.ensures)) refl (filled_none _ _ _);
-    }
+    let part = run_unlisted _ _ _ _ c.args.self.now.within c.counted-end.ensures (omega (arith, c.slots_before-start.ensures, c.slots_before-stop.ensures, c.if-start-stop.true)) in
+    record { first = refl; limit = refl; pixels = refl; masks = refl; part = part }
 
 pub returns : goal.returns
 returns c =
@@ -21,5 +21,5 @@ returns c =
       limit = refl;
       pixels = refl;
       masks = refl;
-      part = run_listed _ _ _ c.args.self.now.within c.counted-self.ensures c.slots_before-start.ensures c.slots_before-stop.ensures c.saturating_sub-passed.ensures c.fill.ensures;
+      part = run_listed _ _ _ c.args.self.now.within c.counted-end.ensures c.slots_before-start.ensures c.slots_before-stop.ensures c.saturating_sub-passed.ensures c.fill.ensures;
     }
