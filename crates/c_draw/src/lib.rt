@@ -1,4 +1,4 @@
-// The C interface of a draw, over plain values: whether it is admitted, and what one of its pixels emits. Vertices are six floats each, in the order x, y, red, green, blue,
+// The C interface of a draw's lists: whether the draw is admitted, and what one of its pixels emits. Vertices are six floats each, in the order x, y, red, green, blue,
 // alpha, and one presence byte each; three indices name a triangle. Crate exports gives the calls their C names.
 #![tactic(auto)]
 

@@ -1,5 +1,5 @@
-// The C interface of the frame, over plain values: a draw, its emitted pixels, a word read and a run of words over three lent slices of colour bytes, coverages and marks. Crate exports
-// gives the calls their C names.
+// The C interface of the frame: what a draw is by C's values, and a draw, its emitted pixels, a word read and a run of words over three lent slices of colour bytes, coverages and
+// marks. Crate exports gives the calls their C names.
 #![tactic(auto)]
 
 ghost use Rattle.std.specs.Prelude.{◌≡◌, []};
@@ -21,7 +21,7 @@ use state::{CombinerUniform, RenderMode};
 
 pub mod emitted; // the emitted pixels of a draw
 
-// 0 is the fast engine, and every other number the slow one.
+// 0 is the fast engine, and every other number the slow one: a rule of this interface alone, and no From of Engine's own crate.
 pub fn engine_of(number: u8) -> Engine
     ensures { result ≡ engine_of number }
 {

@@ -1,4 +1,5 @@
-// A draw over the lent frame (docs/RULES.md, A draw). What it is turned away for is checked before anything is written.
+// A draw over the lent frame (docs/RULES.md, A draw). What it is turned away for is checked before anything is written. The frame comes as the three slices that a host
+// lends: before numbers 1 to 3 nothing says that they are a frame.
 #![tactic(auto)]
 
 ghost use Rattle.std.specs.Prelude.{◌≡◌};

@@ -1,5 +1,5 @@
 // The pixels that a draw would emit, by number and sample mask: one by its place in the draw, or a run of them. The frame is lent to be read only, for numbers 1 to 3;
-// nothing is drawn.
+// nothing is drawn. The frame and the slots come as the slices that a host lends: before the numbers nothing says what they are.
 #![tactic(auto)]
 
 ghost use Rattle.std.specs.Prelude.{◌≡◌, ◌≤◌, length, Ok, slice_index_or};
