@@ -4,6 +4,7 @@ use mathlib.Core.Bool.{Bool, true, false, cond, ◌||◌, not}
 use mathlib.Core.List.{List}
 use Prim.Native.Nat.{ℕ, ◌+◌, ◌-◌, ◌*◌, ◌≤◌, ◌<◌}
 use native.Mathlib.Omega.{arith}
+use Rattle.std.proofs.lemmas.Grind.{common_steps}
 use lib.Bits.{bit_or}
 use lib.ListN.{length, get_or, set}
 use Rattle.std.proofs.lemmas.List.{set-get_or}
@@ -12,18 +13,18 @@ use Rattle.num_float.specs.Color.{f1}
 use Rattle.state.specs.declared.RenderMode.{RenderMode}
 use Rattle.state.specs.declared.Rgba.{Rgba}
 use Rattle.combiner.specs.declared.Combiner.{Combiner}
-use Rattle.std.specs.Prelude.{Option, None, Some, is_some}
+use Rattle.std.specs.Prelude.{None, Some}
 use Rattle.std.specs.Bool.{then_some}
 use Rattle.frame_pixel.specs.declared.Colors.{Colors}
 use Rattle.frame_pixel.specs.declared.full.Full.{Full}
 use Rattle.frame_pixel.specs.Marks.{color_marked, coverage_marked, unknown, mark_of}
-use Rattle.frame_pixel.specs.Rules.{coverage_byte, coverage_at, assembled}
+use Rattle.frame_pixel.specs.Rules.{coverage_byte, assembled}
 use Rattle.frame_pixel.specs.Coloring.{over_colors}
-use Rattle.frame_pixel.specs.Full.{FullOf, Enough, full_known, full_coverage, full_with, full_step}
+use Rattle.frame_pixel.specs.Full.{FullOf, Enough, full_coverage, full_with, full_step}
 use Rattle.frame_pixel.proofs.Fulls.{full-step}
 use Rattle.raster_pixel.specs.Parts.{from}
 use Rattle.raster_pixel.proofs.Loops.{Going, going_start, going_more, going_done}
-use Rattle.frame.specs.Frame.{Frame, frame_of, pixel_at, put_pixel}
+use Rattle.frame.specs.Frame.{Frame, pixel_at, put_pixel}
 use Rattle.frame.specs.Fits.{Fit, with_colors, with_coverage, colors_at, colors_if, stored_at}
 use Rattle.frame_paint.specs.declared.prepare.Paint.{Paint}
 use Rattle.frame_paint.specs.Steps.{source_of, step_frame}
@@ -36,72 +37,27 @@ use Rattle.frame_paint.proofs.Steps.{three_back}
 full-coverage :
     (fills m : Bool) (cs : List ℕ) (p : ℕ)
     → with_coverage cs p (then_some fills 7) ≡ set cs p (coverage_byte (full_coverage fills (cond m (Some (get_or cs p 0)) None)) (get_or cs p 0))
-full-coverage true m cs p = refl
-full-coverage false true cs p = sym (set-get_or cs p 0)
-full-coverage false false cs p = sym (set-get_or cs p 0)
+full-coverage fills m cs p = grind (arith, common_steps, set-get_or)
 
 full-colors :
     (l marked o : Bool) (cs : List ℕ) (p : ℕ) (over : Colors → Colors) (own : Colors)
-    → with_colors cs p (cond l (cond marked (Some (over (colors_at cs p))) None) (then_some o own))
+    → with_colors cs p (then_some (cond l marked o) (cond l (over (colors_if marked (colors_at cs p))) own))
     ≡ (let c = cond (cond l marked o) (cond l (over (colors_at cs p)) own) (colors_at cs p) in set (set (set cs (3 * p) c.red) (3 * p + 1) c.green) (3 * p + 2) c.blue)
-full-colors true true o cs p over own = refl
-full-colors true false o cs p over own = sym (three_back cs (3 * p))
-full-colors false marked true cs p over own = refl
-full-colors false marked false cs p over own = sym (three_back cs (3 * p))
-
--- its colour, if it is then known, by whether the memory's colour and its coverage are
-abbrev pub full_color : Full → Bool → Bool → Colors → Option Colors
-full_color full marked covered memory = cond full.layered (cond marked (Some (over_colors full.layer memory)) None) (then_some (full.sure || covered) full.own)
-
--- its bytes and whether they are known, as an option
-pub full-given : (l marked o : Bool) (over : Colors → Colors) (memory own : Colors) → then_some (cond l marked o) (cond l (over (colors_if marked memory)) own) ≡ cond l (cond marked (Some (over memory)) None) (then_some o own)
-full-given true true o over memory own = refl
-full-given true false o over memory own = refl
-full-given false marked o over memory own = refl
-
-pub is_some-then_some : {A : Type 0} (b : Bool) (x : A) → is_some (then_some b x) ≡ b
-is_some-then_some true x = refl
-is_some-then_some false x = refl
-
-full-known : (l marked o : Bool) (over own : Colors) → is_some (cond l (cond marked (Some over) None) (then_some o own)) ≡ cond l marked o
-full-known true true o over own = refl
-full-known true false o over own = refl
-full-known false marked true over own = refl
-full-known false marked false over own = refl
+full-colors l marked o cs p over own = grind (arith, common_steps, three_back)
 
 -- the marks that it sets, joined with those of its colour and of the coverage that stood there
 full_mark : (known m fills : Bool) (c : ℕ) → bit_or (mark_of known m) (mark_of false fills) ≡ mark_of known (not (unknown (full_coverage fills (cond m (Some c) None))))
 unfolding mark_of
-full_mark true true true c = refl
-full_mark true true false c = refl
-full_mark true false true c = refl
-full_mark true false false c = refl
-full_mark false true true c = refl
-full_mark false true false c = refl
-full_mark false false true c = refl
-full_mark false false false c = refl
+full_mark known m fills c = grind (arith, common_steps)
 
-module _ (full : Full) (f : Frame) (p : ℕ) where
-  pub filled :
-      {m : Bool} {color : Option Colors} {coverage : Option ℕ} {a : ℕ} {g : Frame} → m ≡ coverage_marked (get_or f.marks p 0)
-      → color ≡ full_color full (color_marked (get_or f.marks p 0)) m (colors_at f.colors p) → coverage ≡ then_some full.fills 7
-      → full.sets ≡ mark_of false full.fills → a ≡ mark_of (is_some color) m → g ≡ stored_at f p color coverage (bit_or a full.sets)
-      → g ≡ filled_at full f p
-  unfolding full_step full_with assembled
-  filled em ec eg es ea e =
-      let x = pixel_at f p in
-      let marked = color_marked x.mark in
-      let m = coverage_marked x.mark in
-      let over = over_colors full.layer in
-      let memory = colors_at f.colors p in
-      let ec' = ec ∙ (λ i. full_color full marked (em i) memory) in
-      let known = ap is_some ec' ∙ full-known full.layered marked (full.sure || m) (over memory) full.own in
-      let mark = (λ i. bit_or ((ea ∙ (λ j. mark_of (known j) (em j))) i) (es i)) ∙ full_mark (full_known full x) m full.fills x.coverage in
-      let colors = full-colors full.layered marked (full.sure || m) f.colors p over full.own in
-      let coverages = full-coverage full.fills m f.coverages p in
-      e
-      ∙ (λ i. stored_at f p (ec' i) (eg i) (mark i))
-      ∙ (λ i. frame_of (colors i) (coverages i) (set f.marks p (mark_of (full_known full x) (not (unknown (full_coverage full.fills (coverage_at x)))))))
+pub filled :
+    (full : Full) (f : Frame) (p : ℕ) {m known : Bool} {new : Colors} {a : ℕ} {g : Frame} → m ≡ coverage_marked (get_or f.marks p 0)
+    → known ≡ cond full.layered (color_marked (get_or f.marks p 0)) (full.sure || m)
+    → new ≡ cond full.layered (over_colors full.layer (colors_if (color_marked (get_or f.marks p 0)) (colors_at f.colors p))) full.own
+    → full.sets ≡ mark_of false full.fills → a ≡ mark_of known m → g ≡ stored_at f p (then_some known new) (then_some full.fills 7) (bit_or a full.sets)
+    → g ≡ filled_at full f p
+unfolding full_step full_with assembled
+filled full f p em ek en es ea e = grind (arith, common_steps, full-colors, full-coverage, full_mark)
 
 -- ---- that is a step
 module _ {mode : RenderMode} {k : Combiner} {color : Rgba} {full : Full} (o : FullOf mode k color full) (e : Enough mode full) where

@@ -1,8 +1,9 @@
 -- How many pixels a row emits, and a run of full pixels of the paint's own colour. Assumes nothing.
-use mathlib.Core.Path.{◌≡◌, refl, sym, ◌∙◌}
-use mathlib.Core.Bool.{Bool, true, false, cond}
+use mathlib.Core.Path.{◌≡◌, sym, ◌∙◌}
+use mathlib.Core.Bool.{Bool, true, cond}
 use Prim.Native.Nat.{ℕ, ◌+◌, ◌-◌, ◌*◌, ◌≤◌, ◌<◌}
 use native.Mathlib.Omega.{arith}
+use Rattle.std.proofs.lemmas.Grind.{common_steps}
 use lib.ListN.{length}
 use Rattle.std.specs.Prelude.{Option, Some, None}
 use Rattle.raster_edges.specs.declared.Edges.{Edges}
@@ -22,16 +23,14 @@ use Rattle.frame_paint.proofs.Drawing.{drew_as, drew_count}
 
 -- ---- how many pixels a row emits
 emits_most : (r : Option Fragment) (p : ℕ) → length (emits r p) ≤ 1
-emits_most None p = omega arith
-emits_most (Some f) p = omega arith
+emits_most r p = grind (arith, common_steps)
 
 pub row_most : (paint : Paint) (shades : Option ShadeRow) (e : Edges) (w y a b : ℕ) → length (from (row_at paint shades e w y) a b) ≤ b - a
 row_most paint shades e w y a b = omega (arith, parts_bound (row_at paint shades e w y) 1 (λ x. emits_most _ _) (b - a) a)
 
 -- ---- a run of full pixels of the paint's own colour
 full_shown : (antialias : Bool) → shown antialias 255 ≡ true
-full_shown true = refl
-full_shown false = refl
+full_shown antialias = grind (arith, common_steps)
 
 full_row :
     (paint : Paint) {shades : Option ShadeRow} {mask : ℕ} (x p : ℕ) → shades ≡ None → mask ≡ 255

@@ -1,10 +1,12 @@
 -- The parts of a paint from the answers that they are made of, and that the shade's alpha has no part in a pixel of an even paint's own colour. Assumes nothing.
-use mathlib.Core.Path.{◌≡◌, refl, sym, ap, ◌∙◌}
-use mathlib.Core.Bool.{Bool, true, false, cond, not, ◌&&◌, ◌||◌}
+use mathlib.Core.Path.{◌≡◌, sym, ap, ◌∙◌}
+use mathlib.Core.Bool.{Bool, true, not, ◌&&◌}
 use Prim.Native.Nat.{ℕ}
+use native.Mathlib.Omega.{arith}
+use Rattle.std.proofs.lemmas.Grind.{common_steps}
 use lib.Dec.{eqb}
 use lib.Ieee.{Float}
-use Rattle.std.specs.Prelude.{Option, Some, None, unwrap_or}
+use Rattle.std.specs.Prelude.{Option}
 use Rattle.std.specs.Bool.{then_some}
 use Rattle.state.specs.declared.RenderMode.{RenderMode}
 use Rattle.state.specs.declared.Rgba.{Rgba}
@@ -15,18 +17,17 @@ use Rattle.combiner_resolved.specs.Shaded.{shade_used}
 use Rattle.combiner_resolved.proofs.Flat.{flat_color}
 use Rattle.blender.specs.declared.Mux.{Mux}
 use Rattle.blender.specs.Mux.{mux_of}
-use Rattle.blender.specs.Blend.{source_of}
-use Rattle.blender.specs.Layer.{own_of, steady_of}
+use Rattle.blender.specs.Layer.{own_of, layered_of, opaque_of, steady_of}
 use Rattle.blender.proofs.Solid.{opaque}
 use Rattle.blender.proofs.Layers.{layered, steady}
 use Rattle.frame_pixel.specs.declared.Pixel.{Pixel}
 use Rattle.frame_pixel.specs.declared.Colors.{Colors}
 use Rattle.frame_pixel.specs.declared.full.Full.{Full}
 use Rattle.frame_pixel.specs.Rules.{pixel_step}
-use Rattle.frame_pixel.specs.Coloring.{colors_of, own_colors}
+use Rattle.frame_pixel.specs.Coloring.{own_colors}
 use Rattle.frame_pixel.specs.Full.{FullOf}
 use Rattle.std.proofs.lemmas.Bool.{not-true}
-use Rattle.num_float.proofs.Tests.{never, both_left, both_right}
+use Rattle.num_float.proofs.Tests.{both_left, both_right}
 use Rattle.frame_pixel.proofs.Colorings.{opaque_step, unshaded_step}
 use Rattle.num_bits.specs.Ones.{ones_of}
 use Rattle.frame.specs.Frame.{Frame, pixel_at, put_pixel}
@@ -41,30 +42,10 @@ module _ (k : Combiner) {c : Rgba} {even shaded : Bool} where
   all_colored ec eh o = (both_left even (not shaded) o, λ s. flat_color k s full_shade (sym eh ∙ not-true _ (both_right even (not shaded) o)) ∙ ec)
 
 -- ---- the bytes of an opaque pixel: P is the pixel's colour, or does not turn on it
-own_plain : (k : ℕ) (combiner : Combiner) (a b : Rgba) → eqb k 1 ≡ false → (p : Bool) → eqb k 0 ≡ p
-    → source_of k combiner a a ≡ cond p a (source_of k combiner b b)
-own_plain k combiner a b h true e = λ i. cond (e i) a (cond (eqb k 1) a (cond (eqb k 2) combiner.blend combiner.fog))
-own_plain k combiner a b h false e =
-    let rest = cond (eqb k 2) combiner.blend combiner.fog in
-    (λ i. cond (e i) a (cond (h i) a rest)) ∙ sym (λ i. cond (e i) b (cond (h i) b rest))
-
-there : (b : Bool) (own : Colors) → then_some (not b) own ≡ cond b None (Some own)
-there true own = refl
-there false own = refl
-
 module _ (mode : RenderMode) (k : Combiner) {c : Rgba} {full : Full} {mux : Mux} {own : Option Colors} where
   pub own_bytes : FullOf mode k c full → mux ≡ mux_of mode.blender_mux → own ≡ then_some (not (eqb mux.p 0)) full.own → Own mode k own
   unfolding own_colors own_of
-  own_bytes ef em eo color o =
-      let n = (mux_of mode.blender_mux).p in
-      let p = source_of n k c c in
-      ap (λ (own : Option Colors). unwrap_or own (colors_of color)) (eo ∙ there (eqb mux.p 0) full.own ∙ (λ i. cond (eqb (em i).p 0) None (Some (ef.own i))))
-      ∙ chosen p (eqb n 0)
-      ∙ sym (ap colors_of (own_plain n k color c (opaque mode color.a o).own (eqb n 0) refl))
-    where
-      chosen : (p : Rgba) (b : Bool) → unwrap_or (cond b None (Some (colors_of p))) (colors_of color) ≡ colors_of (cond b color p)
-      chosen p true = refl
-      chosen p false = refl
+  own_bytes ef em eo color o = let plain = (opaque mode color.a o).own in grind (arith, common_steps, plain, ef.own, em, eo)
 
 -- ---- the shade's alpha
 -- what is stored of a pixel of the paint's own colour does not turn on it, where what full pixels need is enough
@@ -73,17 +54,12 @@ module _ (paint : Paint) (even : paint.even ≡ true) where
       (n : ℕ) (s t : Float) (x : Pixel)
       → pixel_step paint.mode paint.combiner (record { color = paint.color; shade_alpha = s; count = n }) x
       ≡ pixel_step paint.mode paint.combiner (record { color = paint.color; shade_alpha = t; count = n }) x
-  any_step n s t x = go paint.full.layered refl (steady_of paint.mode) refl paint.full.sure refl (sym paint.enough ∙ even)
-    where
-      go :
-          (l : Bool) → paint.full.layered ≡ l → (d : Bool) → steady_of paint.mode ≡ d → (o : Bool) → paint.full.sure ≡ o → (l || (d || o)) ≡ true
-          → pixel_step paint.mode paint.combiner (record { color = paint.color; shade_alpha = s; count = n }) x
-          ≡ pixel_step paint.mode paint.combiner (record { color = paint.color; shade_alpha = t; count = n }) x
-      go true el d ed o eo h =
-          unshaded_step paint.mode paint.combiner paint.color n x s t (layered paint.mode paint.color.a (sym paint.filled.layered ∙ el)).shade
-      go false el true ed o eo h = unshaded_step paint.mode paint.combiner paint.color n x s t (steady paint.mode ed).shade
-      go false el false ed true eo h = opaque_step paint.mode paint.combiner paint.color n x s t (opaque paint.mode paint.color.a (sym paint.filled.sure ∙ eo))
-      go false el false ed false eo h = never h
+  any_step n s t x =
+      let unshaded = unshaded_step paint.mode paint.combiner paint.color n x s t in
+      let by_layer = λ (h : layered_of paint.mode paint.color.a ≡ true). unshaded (layered paint.mode paint.color.a h).shade in
+      let by_mode = λ (h : steady_of paint.mode ≡ true). unshaded (steady paint.mode h).shade in
+      let by_alpha = λ (h : opaque_of paint.mode paint.color.a ≡ true). opaque_step paint.mode paint.combiner paint.color n x s t (opaque paint.mode paint.color.a h) in
+      grind (arith, common_steps, sym paint.enough ∙ even, paint.filled.layered, paint.filled.sure, by_layer, by_mode, by_alpha)
 
   pub any_shade :
       (f : Frame) (pixel mask : ℕ) (s t : Float)

@@ -1,68 +1,46 @@
 -- One emitted pixel: the five bytes that the rules give, stored as far as they are known, are a step of the frame. Assumes nothing.
-use mathlib.Core.Path.{◌≡◌, refl, sym, ap, subst, ◌∙◌}
+use mathlib.Core.Path.{◌≡◌, sym, subst, ◌∙◌}
 use Prim.Native.Nat.{ℕ, ◌+◌, ◌*◌}
-use mathlib.Core.Bool.{Bool, true, false, cond, not, ◌&&◌, ◌||◌}
-use lib.Dec.{leb}
+use mathlib.Core.Bool.{true, false, cond}
+use native.Mathlib.Omega.{arith}
+use Rattle.std.proofs.lemmas.Grind.{common_steps}
 use mathlib.Core.List.{List}
 use lib.ListN.{get_or, set}
 use Rattle.std.proofs.lemmas.List.{set-get_or}
-use Rattle.std.specs.Prelude.{None, Some}
 use Rattle.state.specs.declared.RenderMode.{RenderMode}
 use Rattle.combiner.specs.declared.Combiner.{Combiner}
 use Rattle.blender.specs.declared.Source.{Source}
 use Rattle.frame_pixel.specs.declared.Pixel.{Pixel}
-use Rattle.frame_pixel.specs.Marks.{highest_mark, color_marked, coverage_marked}
-use Rattle.frame_pixel.specs.Rules.{rule_f4, pixel_step}
+use Rattle.frame_pixel.specs.Marks.{color_marked, coverage_marked}
+use Rattle.frame_pixel.specs.Rules.{pixel_step}
 use Rattle.frame_pixel.specs.Alike.{AlikePixel}
 use Rattle.frame_pixel.proofs.Alike.{pixel_alike, kept_colors, kept_coverage}
 use Rattle.raster_pixel.specs.Emitted.{Emit}
 use Rattle.frame.specs.Checks.{mark_ok}
 use Rattle.frame.specs.Frame.{Frame, frame_of, pixel_at, put_pixel}
-use Rattle.frame.specs.Fits.{Fit, known_pixel, with_colors, with_coverage, put_known}
+use Rattle.frame.specs.Fits.{Fit, known_pixel, put_known}
 use Rattle.frame.proofs.Fits.{put_fit}
 use Rattle.frame_paint.specs.Steps.{source_of, step_frame}
 
 -- ---- a pixel read and stored as far as it is known
 
 known_alike : (x : Pixel) → AlikePixel (known_pixel x) x
-known_alike x =
-    record {
-      mark = refl;
-      red = λ t. λ i. cond (t i) x.red 0;
-      green = λ t. λ i. cond (t i) x.green 0;
-      blue = λ t. λ i. cond (t i) x.blue 0;
-      coverage = λ t. λ i. cond (t i) x.coverage 0;
-    }
+known_alike x = grind (arith, common_steps)
 
 -- storing what is there
 pub three_back :
     (l : List ℕ) (i : ℕ) → set (set (set l i (get_or l i 0)) (i + 1) (get_or l (i + 1) 0)) (i + 2) (get_or l (i + 2) 0) ≡ l
-three_back l i =
-    ap (λ (m : List ℕ). set (set m (i + 1) (get_or l (i + 1) 0)) (i + 2) (get_or l (i + 2) 0)) (set-get_or l i 0)
-    ∙ ap (λ (m : List ℕ). set m (i + 2) (get_or l (i + 2) 0)) (set-get_or l (i + 1) 0)
-    ∙ set-get_or l (i + 2) 0
+three_back l i = grind (arith, set-get_or)
 
 -- an alike pixel whose unknown bytes are those that are there
 module _ (f : Frame) (p : ℕ) {x y : Pixel} (a : AlikePixel x y) where
   alike_colors :
       (color_marked y.mark ≡ false → (y.red ≡ get_or f.colors (3 * p) 0) × ((y.green ≡ get_or f.colors (3 * p + 1) 0) × (y.blue ≡ get_or f.colors (3 * p + 2) 0)))
       → (put_known f p x).colors ≡ (put_pixel f p y).colors
-  alike_colors kept = go (color_marked x.mark) refl
-    where
-      go :
-          (b : Bool) → color_marked x.mark ≡ b
-          → with_colors f.colors p (cond b (Some (rule_f4 x)) None) ≡ (put_pixel f p y).colors
-      go true e = λ i. set (set (set f.colors (3 * p) (a.red e i)) (3 * p + 1) (a.green e i)) (3 * p + 2) (a.blue e i)
-      go false e =
-          let k = kept (ap color_marked (sym a.mark) ∙ e) in
-          sym ((λ i. set (set (set f.colors (3 * p) (k.0 i)) (3 * p + 1) (k.1.0 i)) (3 * p + 2) (k.1.1 i)) ∙ three_back f.colors (3 * p))
+  alike_colors kept = grind (arith, common_steps, three_back)
 
   alike_coverages : (coverage_marked y.mark ≡ false → y.coverage ≡ get_or f.coverages p 0) → (put_known f p x).coverages ≡ (put_pixel f p y).coverages
-  alike_coverages kept = go (coverage_marked x.mark) refl
-    where
-      go : (b : Bool) → coverage_marked x.mark ≡ b → with_coverage f.coverages p (cond b (Some x.coverage) None) ≡ (put_pixel f p y).coverages
-      go true e = λ i. set f.coverages p (a.coverage e i)
-      go false e = sym (ap (set f.coverages p) (kept (ap coverage_marked (sym a.mark) ∙ e)) ∙ set-get_or f.coverages p 0)
+  alike_coverages kept = grind (arith, common_steps, set-get_or)
 
   put_alike :
       (color_marked y.mark ≡ false → (y.red ≡ get_or f.colors (3 * p) 0) × ((y.green ≡ get_or f.colors (3 * p + 1) 0) × (y.blue ≡ get_or f.colors (3 * p + 2) 0)))
@@ -83,22 +61,11 @@ module _ (f : Frame) (p : ℕ) (x : Pixel) where
 
   kept_alike : AlikePixel x kept_at
   unfolding kept_at
-  kept_alike =
-      record {
-        mark = refl;
-        red = λ t. λ i. cond (sym t i) x.red (get_or f.colors (3 * p) 0);
-        green = λ t. λ i. cond (sym t i) x.green (get_or f.colors (3 * p + 1) 0);
-        blue = λ t. λ i. cond (sym t i) x.blue (get_or f.colors (3 * p + 2) 0);
-        coverage = λ t. λ i. cond (sym t i) x.coverage (get_or f.coverages p 0);
-      }
+  kept_alike = grind (arith, common_steps)
 
   kept_ok : mark_ok kept_at.mark kept_at.coverage ≡ mark_ok x.mark x.coverage
   unfolding kept_at mark_ok
-  kept_ok = ap (λ (b : Bool). leb x.mark highest_mark && b) (go (coverage_marked x.mark))
-    where
-      go : (b : Bool) → (not b || leb (cond b x.coverage (get_or f.coverages p 0)) 7) ≡ (not b || leb x.coverage 7)
-      go true = refl
-      go false = refl
+  kept_ok = grind (arith, common_steps)
 
   pub put_known_fit : {n : ℕ} → Fit n f → mark_ok x.mark x.coverage ≡ true → Fit n (put_known f p x)
   unfolding kept_at
@@ -106,8 +73,8 @@ module _ (f : Frame) (p : ℕ) (x : Pixel) where
       subst (Fit n)
       (sym
       (put_alike f p kept_alike
-      (λ h. (λ i. cond (h i) x.red (get_or f.colors (3 * p) 0), (λ i. cond (h i) x.green (get_or f.colors (3 * p + 1) 0), λ i. cond (h i) x.blue (get_or f.colors (3 * p + 2) 0))))
-      (λ h. λ i. cond (h i) x.coverage (get_or f.coverages p 0))))
+      (λ h. (grind (arith, common_steps), (grind (arith, common_steps), grind (arith, common_steps))))
+      (λ h. grind (arith, common_steps))))
       (put_fit fit p kept_at (kept_ok ∙ ok))
 
 -- a step on what is known, stored as far as it then is known, is a step of the frame
