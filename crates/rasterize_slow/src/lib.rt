@@ -9,7 +9,7 @@ ghost use Rattle.raster_pixel.specs.declared.Geometry.TheVariants.{Triangles};
 ghost use Rattle.raster_pixel.specs.Admitted.{triangle_at};
 ghost use Rattle.raster_pixel.specs.Near.{CornersNear};
 ghost use Rattle.raster_pixel.specs.Draw.{emitted_as};
-ghost use Rattle.raster_emitted.specs.Shapes.{geometry_masks};
+ghost use Rattle.raster_emitted.specs.Shapes.{masks_as};
 ghost use Rattle.raster_emitted.specs.Listed.{ListedIn};
 ghost use Rattle.frame_paint.specs.Pixel.{DrewOn};
 ghost use Rattle.rasterize_slow.specs.Shape.{sample_hit, pair_hit, shape_mask, shape_shade, shape_fragment, TameShape, triangle_shape, three_shape, walk_of, pixel_emits, row_emits, shape_emits, triangles_emits, walk_emits};
@@ -59,7 +59,7 @@ fn indexed(shapes: &Shapes, i: usize) -> Option<Shape>
     triangle(shapes.cull, t)
 }
 
-// ---- the samples of a pixel
+// ---- the samples of a pixel. That column and row are below 1,024 is a clause here and below: nothing keeps a place, it is the loops' two counters.
 
 // Whether a shape holds a sample of pixel (x, y): on line 0 to 3 of its four, the left one, side 0, or the right one, side 1. On the odd lines both lie a quarter of a
 // pixel further right.
@@ -223,8 +223,7 @@ pub fn rasterize(target: &mut Target, shapes: &Shapes) -> u64
 
 // The same pixels by number and mask, without a frame: they are counted, and those that are asked for are in their slots.
 pub fn list_pixels(slots: &mut Slots, view: View, shapes: &Shapes)
-    ensures { let s = shapes.now in
-        ListedIn (geometry_masks s.mode.antialias s.cull view.scissor view.width view.height s.lists.vertices.now s.lists.present.now s.lists.indices.now s.geometry) slots.old slots.new }
+    ensures { ListedIn (masks_as view shapes.now) slots.old slots.new }
 {
     let mut listing = Listing { view, slots };
     visit(&mut listing, shapes);

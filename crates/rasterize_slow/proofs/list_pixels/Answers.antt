@@ -1,7 +1,7 @@
 use Rattle.std.proofs.Common.{refl, ap, map, ◌∙◌, rules}
 use Rattle.combiner_resolved.specs.Resolved.{resolved_of, mixed_by}
 use Rattle.raster_emitted.specs.Masked.{masked_of}
-use Rattle.raster_emitted.specs.Shapes.{geometry_masks}
+use Rattle.raster_emitted.specs.Shapes.{masks_as}
 use Rattle.raster_emitted.specs.Listed.{ListedIn}
 use Rattle.raster_emitted.proofs.Colorless.{geometry-masks}
 use Rattle.raster_emitted.proofs.Listing.{listed_as}
@@ -16,6 +16,6 @@ returns c =
     let v = c.args.view in
     let emitted = walk-emits (walk_of v d) v.scissor v.height refl d.cull l.vertices.now l.present.now l.indices.now d.geometry in
     let masks = geometry-masks d.combiner (mixed_by (resolved_of d.combiner)) d.mixed d.mode d.cull v.scissor v.width v.height l.vertices.now l.present.now l.indices.now d.geometry in
-    let listed : ListedIn (geometry_masks d.mode.antialias d.cull v.scissor v.width v.height l.vertices.now l.present.now l.indices.now d.geometry) c.args.slots.now c.visit.new.sink.slots.now =
+    let listed : ListedIn (masks_as v d) c.args.slots.now c.visit.new.sink.slots.now =
     listed_as (ap (map masked_of) emitted ∙ masks) c.visit.ensures.sent.taken.listed in
     search rules
