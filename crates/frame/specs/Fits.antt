@@ -1,5 +1,5 @@
 -- Inner vocabulary. A frame that numbers 1 to 3 let through, and a pixel as far as it is known. Definitions only.
-use Rattle.std.specs.Prelude.{ℕ, ◌+◌, ◌*◌, ◌≤◌, ◌≡◌, Bool, List, length, set, Option, Some, None, if◌then◌else◌, slice_index}
+use Rattle.std.specs.Prelude.{ℕ, ◌+◌, ◌*◌, ◌≤◌, ◌≡◌, Bool, ◌&&◌, List, length, set, Option, Some, None, if◌then◌else◌, slice_index}
 use Rattle.frame_pixel.specs.declared.Pixel.{Pixel}
 use Rattle.frame_pixel.specs.Marks.{highest_mark, color_marked, coverage_marked, coverage_of}
 use Rattle.blender.specs.Coverage.{Coverage}
@@ -39,6 +39,10 @@ pub record Accepted (f : Frame) (w h : ℕ) : Type 0 where
 -- a pixel's colour, if it is known
 abbrev pub color_at : Pixel → Option Colors
 color_at x = if color_marked x.mark then Some (rule_f4 x) else None
+
+-- its colour and coverage, if both are known
+abbrev pub bytes_at : Pixel → Option (Colors × ℕ)
+bytes_at x = if color_marked x.mark && coverage_marked x.mark then Some (rule_f4 x, x.coverage) else None
 
 -- an unmarked byte stands as 0
 abbrev pub known_pixel : Pixel → Pixel

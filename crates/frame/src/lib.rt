@@ -2,14 +2,14 @@
 // says that it is known, and written only where it then is.
 #![tactic(auto)]
 
-ghost use Rattle.std.specs.Prelude.{◌≡◌, ◌+◌, ◌*◌, ◌<◌, ◌≤◌, length, IfOk};
+ghost use Rattle.std.specs.Prelude.{◌≡◌, ◌+◌, ◌*◌, ◌<◌, ◌≤◌, length, IfOk, IfSome};
 ghost use Rattle.blender.specs.Blend.{or_zero};
 ghost use Rattle.frame_pixel.specs.Rules.{coverage_at};
 ghost use Rattle.refused.specs.Refused.{refusal_of};
 ghost use Rattle.frame.specs.Frame.{pixel_at, frame_of};
 ghost use Rattle.frame.specs.Checks.{frame_refusal};
 ghost use Rattle.frame.specs.Lent.{old, new, lent, before, after};
-ghost use Rattle.frame.specs.Fits.{Long, Accepted, color_at, known_pixel, put_if, stored_at, put_known};
+ghost use Rattle.frame.specs.Fits.{Long, Accepted, color_at, bytes_at, known_pixel, put_if, stored_at, put_known};
 ghost use Rattle.std.specs.Bool.{then_some};
 ghost use Rattle.frame.specs.Loads.{Loadable};
 
@@ -78,6 +78,15 @@ impl<'a> Frame<'a> {
         ensures low { or_zero result ≤ 7 }
     {
         load::known_coverage(self.coverages, self.marks, pixel)
+    }
+
+    // A pixel's colour bytes and coverage, if both are known. One test of the mark: with two, a run of words over marks of noise takes 1.4 times as long.
+    pub fn bytes(&self, pixel: usize) -> Option<(Colors, u8)>
+        requires { pixel < length (seen self.now).marks }
+        ensures value { result ≡ bytes_at (pixel_at (seen self.now) pixel) }
+        ensures low { IfSome result (λ bytes. bytes.1 ≤ 7) }
+    {
+        load::known_bytes(self.colors, self.coverages, self.marks, pixel)
     }
 }
 

@@ -1,7 +1,7 @@
 // The loads of colour and coverage bytes. A byte of these two slices is loaded by `color` or by `coverage` and nowhere else. Both ask that the mark of the
 // byte's pixel says that it is known: their `marks` are there for that need alone.
-ghost use Rattle.std.specs.Prelude.{◌≡◌, ◌<◌, length, Some, None, if◌then◌else◌, slice_index};
-ghost use Rattle.frame_pixel.specs.Marks.{color_marked, coverage_of};
+ghost use Rattle.std.specs.Prelude.{◌≡◌, ◌<◌, ◌&&◌, length, Some, None, if◌then◌else◌, slice_index};
+ghost use Rattle.frame_pixel.specs.Marks.{color_marked, coverage_marked, coverage_of};
 ghost use Rattle.frame.specs.Loads.{ColorKnown, CoverageKnown, ColorThere, CoverageThere};
 ghost use Rattle.frame.specs.Fits.{colors_at};
 
@@ -56,6 +56,28 @@ pub fn known_coverage(coverages: &[u8], marks: &[u8], pixel: usize) -> Coverage
     let known = frame_pixel::coverage_marked(mark);
     if known {
         return Some(coverage(coverages, marks, pixel));
+    }
+    None
+}
+
+// A pixel's colour bytes and coverage, if both are known; else none is loaded.
+pub fn known_bytes(
+    colors: &[u8],
+    coverages: &[u8],
+    marks: &[u8],
+    pixel: usize,
+) -> Option<(Colors, u8)>
+    requires pixel_in_bounds { pixel < length marks.now }
+    requires color_there { ColorThere colors.now marks.now pixel }
+    requires coverage_there { CoverageThere coverages.now marks.now pixel }
+    ensures { result ≡ (if color_marked (slice_index marks.now pixel) && coverage_marked (slice_index marks.now pixel) then Some (colors_at colors.now pixel, slice_index coverages.now pixel) else None) }
+{
+    let mark = marks[pixel];
+    if frame_pixel::color_marked(mark) && frame_pixel::coverage_marked(mark) {
+        return Some((
+            color(colors, marks, pixel),
+            coverage(coverages, marks, pixel),
+        ));
     }
     None
 }

@@ -57,8 +57,8 @@ fn read(frame: &Frame, pixel: usize, place: Place, format: Format) -> Result<Byt
     requires { pixel < length (seen frame.now).marks }
     ensures { word_means result ≡ answer_at format.siz place.x place.y format.rgb_dither format.encoding (pixel_at (seen frame.now) pixel) }
 {
-    let color = frame.color(pixel).ok_or(Refusal::Unknown)?;
     if format.siz != 2 {
+        let color = frame.color(pixel).ok_or(Refusal::Unknown)?;
         let byte = if place.x % 2 == 0 {
             color.red
         } else {
@@ -66,7 +66,7 @@ fn read(frame: &Frame, pixel: usize, place: Place, format: Format) -> Result<Byt
         };
         return Ok(Bytes2(byte, 0));
     }
-    let coverage = frame.coverage(pixel).ok_or(Refusal::Unknown)?;
+    let (color, coverage) = frame.bytes(pixel).ok_or(Refusal::Unknown)?;
     Ok(halfword(Rgba8::from(color), coverage, place, format))
 }
 
