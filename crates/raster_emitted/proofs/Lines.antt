@@ -4,7 +4,6 @@ use mathlib.Core.Path.{◌≡◌, sym, ap, ◌∙◌}
 use mathlib.Core.Bool.{Bool, true, false, cond}
 use mathlib.Core.List.{List, [], ◌∷◌}
 use native.Mathlib.Decide.{dec_lt}
-use native.Mathlib.Nat.{mul-le-mul_right}
 use native.Mathlib.Omega.{arith}
 use Rattle.raster_range.specs.declared.Range.{Range}
 use Rattle.raster_range.specs.Kept.{Kept}
@@ -20,10 +19,6 @@ use Rattle.raster_pixel.proofs.Kept.{kept_all}
 use Rattle.raster_pixel.proofs.Parts.{from_empty, from_same, from_shift}
 use Rattle.raster_emitted.specs.Masked.{Masked}
 use Rattle.raster_emitted.specs.Shapes.{pixel_masks, run_masks, row_masks, line_masks}
-
--- the numbers of a row's pixels fit 32 bits
-pub pixels_small : (y w : ℕ) → y < 1024 → w ≤ 1024 → y * w ≤ 1048576
-pixels_small y w h k = omega (arith, mul-le-mul_right {m = y} {n = 1024} w (omega arith))
 
 -- ---- a pixel
 hit : (antialias : Bool) (mask p : ℕ) → shown antialias mask ≡ true → pixel_masks antialias mask p ≡ record { pixel = p; mask = mask } ∷ []

@@ -1,11 +1,9 @@
 -- A run of pixels of one mask: its length and its j-th pixel; and the slots that a loop over it fills. Assumes nothing.
 use Prim.Native.Nat.{ℕ, ◌+◌, ◌-◌, ◌≤◌, ◌<◌, min}
-use mathlib.Core.Path.{◌≡◌, refl, sym, ap, subst, ◌∙◌}
+use mathlib.Core.Path.{◌≡◌, refl, sym, ap, ◌∙◌}
 use mathlib.Core.List.{List}
-use native.Mathlib.Decide.{ℕ_discrete}
 use native.Mathlib.Omega.{arith}
-use lib.ListN.{length, get_or, set, length-set}
-use lib.Seq.{get_or-set_same, get_or-set_other}
+use lib.ListN.{length, get_or}
 use Rattle.raster_pixel.proofs.Parts.{each_length, each_at}
 use Rattle.raster_emitted.specs.Filled.{Places, Filled}
 use Rattle.raster_emitted.specs.Masked.{Masked, no_pixel}
@@ -28,24 +26,6 @@ pub record Numbered (number : ℕ → ℕ) (lo hi : ℕ) (before after : List �
   pub written : (i : ℕ) → lo ≤ i → i < hi → get_or after i 0 ≡ number i
   pub below : (i : ℕ) → i < lo → get_or after i 0 ≡ get_or before i 0
   pub above : (i : ℕ) → hi ≤ i → get_or after i 0 ≡ get_or before i 0
-
-module _ (number : ℕ → ℕ) {before : List ℕ} where
-  pub numbered_none : (lo : ℕ) → Numbered number lo lo before before
-  numbered_none lo = record { long = refl; written = λ i p q. absurd (omega arith); below = λ i p. refl; above = λ i p. refl }
-
-  module _ {lo hi p : ℕ} {ps : List ℕ} (d : Numbered number lo hi before ps) (o : lo ≤ hi) (h : hi < length ps) (e : p ≡ number hi) where
-    pub numbered_more : Numbered number lo (hi + 1) before (set ps hi p)
-    numbered_more =
-        record {
-          long = length-set ps hi p ∙ d.long;
-          written = λ i a b. go i a b (ℕ_discrete i hi);
-          below = λ i a. get_or-set_other ps hi i p 0 (λ q. omega arith) ∙ d.below i a;
-          above = λ i a. get_or-set_other ps hi i p 0 (λ q. omega arith) ∙ d.above i (omega arith);
-        }
-      where
-        go : (i : ℕ) → lo ≤ i → i < hi + 1 → Dec (i ≡ hi) → get_or (set ps hi p) i 0 ≡ number i
-        go i a b (yes q) = subst (λ (j : ℕ). get_or (set ps hi p) j 0 ≡ number j) (sym q) (get_or-set_same ps hi p 0 h ∙ e)
-        go i a b (no n) = get_or-set_other ps hi i p 0 n ∙ d.written i a (omega arith)
 
 module _ (number : ℕ → ℕ) (mask : ℕ) {before : Places} where
   filled_none : (lo : ℕ) → Filled number mask lo lo before before
