@@ -162,18 +162,13 @@ pub fn put_pixel(
     ensures { after colors coverages marks ≡ put_known (before colors coverages marks) pixel bytes }
 {
     let mark = bytes.mark;
-    let color = Colors {
-        red: bytes.red,
-        green: bytes.green,
-        blue: bytes.blue,
-    };
     store(
         colors,
         coverages,
         marks,
         pixel,
         frame_pixel::color_marked(mark),
-        color,
+        bytes.colors(),
         frame_pixel::coverage_marked(mark),
         bytes.coverage,
         mark,

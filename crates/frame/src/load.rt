@@ -1,5 +1,6 @@
 // The loads of colour and coverage bytes. A byte of these two slices is loaded by `color` or by `coverage` and nowhere else. Both ask that the mark of the
-// byte's pixel says that it is known: their `marks` are there for that need alone.
+// byte's pixel says that it is known: their `marks` are there for that need alone. What is there is said in each contract and in no type: slices that are known
+// to be long enough could be loaded unasked.
 ghost use Rattle.std.specs.Prelude.{◌≡◌, ◌<◌, ◌&&◌, length, Some, None, if◌then◌else◌, slice_index};
 ghost use Rattle.frame_pixel.specs.Marks.{color_marked, coverage_marked, coverage_of};
 ghost use Rattle.frame.specs.Loads.{ColorKnown, CoverageKnown, ColorThere, CoverageThere};

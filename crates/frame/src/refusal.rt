@@ -148,7 +148,8 @@ impl Marked<'_> {
         }
     }
 
-    // Part after part: known and unknown pixels mostly lie together, so that few parts are mixed.
+    // Part after part: known and unknown pixels mostly lie together, so that few parts are mixed. A loop, not `all`: that both slices of a part are of one length is known of the two iterators
+    // together, so that its closure would need clauses of its own.
     fn parts_ok(&self) -> bool
         ensures { result ≡ marks_ok self.now.coverages.now self.now.marks.now }
     {
