@@ -12,7 +12,7 @@ use lib.ListN.{length, get_or, set, length-set}
 use Rattle.frame_pixel.specs.declared.Pixel.{Pixel}
 use Rattle.frame_pixel.specs.Marks.{highest_mark, coverage_marked, coverage_of}
 use Rattle.blender.specs.Blend.{or_zero}
-use Rattle.num_float.proofs.Tests.{both_left, both_right}
+use Rattle.std.proofs.lemmas.Bool.{and_parts}
 use Rattle.std.specs.Prelude.{None, Some}
 use Rattle.frame.specs.Frame.{Frame, put_pixel}
 use Rattle.frame.specs.Fits.{Fit, Accepted}
@@ -24,11 +24,11 @@ use Rattle.frame.specs.Checks.{size_ok, sizes_ok, lengths_ok, mark_ok, marks_ok,
 module _ (m c : ℕ) where
   mark_low : mark_ok m c ≡ true → m ≤ highest_mark
   unfolding mark_ok
-  mark_low h = leb-true m highest_mark (both_left (leb m highest_mark) (not (coverage_marked m) || leb c 7) h)
+  mark_low h = leb-true m highest_mark (and_parts (leb m highest_mark) (not (coverage_marked m) || leb c 7) h).0
 
   mark_le : mark_ok m c ≡ true → or_zero (coverage_of m c) ≤ 7
   unfolding mark_ok
-  mark_le h = go (coverage_marked m) (both_right (leb m highest_mark) (not (coverage_marked m) || leb c 7) h)
+  mark_le h = go (coverage_marked m) (and_parts (leb m highest_mark) (not (coverage_marked m) || leb c 7) h).1
     where
       go : (b : Bool) → (not b || leb c 7) ≡ true → or_zero (cond b (Some c) None) ≤ 7
       go true p = leb-true c 7 p
@@ -48,8 +48,8 @@ unfolding marks_ok mark_ok
 marks_at [] [] e h p = refl
 marks_at [] (m ∷ ms) e h p = absurd (omega arith)
 marks_at (c ∷ cs) [] e h p = absurd (omega arith)
-marks_at (c ∷ cs) (m ∷ ms) e h zero = both_left (mark_ok m c) (marks_ok cs ms) h
-marks_at (c ∷ cs) (m ∷ ms) e h (suc p) = marks_at cs ms (omega arith) (both_right (mark_ok m c) (marks_ok cs ms) h) p
+marks_at (c ∷ cs) (m ∷ ms) e h zero = (and_parts (mark_ok m c) (marks_ok cs ms) h).0
+marks_at (c ∷ cs) (m ∷ ms) e h (suc p) = marks_at cs ms (omega arith) (and_parts (mark_ok m c) (marks_ok cs ms) h).1 p
 
 marks_all : (cs ms : List ℕ) → ((p : ℕ) → mark_ok (get_or ms p 0) (get_or cs p 0) ≡ true) → marks_ok cs ms ≡ true
 unfolding marks_ok
@@ -63,13 +63,13 @@ unfolding marks_ok
 marks_put [] ms p c m h t = refl
 marks_put (d ∷ cs) [] zero c m h t = refl
 marks_put (d ∷ cs) [] (suc p) c m h t = refl
-marks_put (d ∷ cs) (l ∷ ms) zero c m h t = λ i. h i && both_right (mark_ok l d) (marks_ok cs ms) t i
+marks_put (d ∷ cs) (l ∷ ms) zero c m h t = λ i. h i && (and_parts (mark_ok l d) (marks_ok cs ms) t).1 i
 marks_put (d ∷ cs) (l ∷ ms) (suc p) c m h t =
-    λ i. both_left (mark_ok l d) (marks_ok cs ms) t i && marks_put cs ms p c m h (both_right (mark_ok l d) (marks_ok cs ms) t) i
+    λ i. (and_parts (mark_ok l d) (marks_ok cs ms) t).0 i && marks_put cs ms p c m h (and_parts (mark_ok l d) (marks_ok cs ms) t).1 i
 
 -- ---- a frame that is not refused
 size_range : (n : ℕ) → size_ok n ≡ true → (1 ≤ n) × (n ≤ 1024)
-size_range n p = (leb-true 1 n (both_left (leb 1 n) (leb n 1024) p), leb-true n 1024 (both_right (leb 1 n) (leb n 1024) p))
+size_range n p = (leb-true 1 n (and_parts (leb 1 n) (leb n 1024) p).0, leb-true n 1024 (and_parts (leb 1 n) (leb n 1024) p).1)
 
 pub pixels_le : (w h : ℕ) → w ≤ 1024 → h ≤ 1024 → w * h ≤ 1048576
 pixels_le w h a b = le_trans (mul-le-mul_left w b) (mul-le-mul_right 1024 a)
@@ -79,12 +79,12 @@ lengths_fit f n p s =
     let a = eqb (length f.colors) (3 * n) in
     let b = eqb (length f.coverages) n in
     let c = eqb (length f.marks) n in
-    let rest : (b && c) ≡ true = both_right a (b && c) p in
-    let k : length f.coverages ≡ n = eqb-true (length f.coverages) n (both_left b c rest) in
-    let m : length f.marks ≡ n = eqb-true (length f.marks) n (both_right b c rest) in
+    let rest : (b && c) ≡ true = (and_parts a (b && c) p).1 in
+    let k : length f.coverages ≡ n = eqb-true (length f.coverages) n (and_parts b c rest).0 in
+    let m : length f.marks ≡ n = eqb-true (length f.marks) n (and_parts b c rest).1 in
     let at = marks_at f.coverages f.marks (k ∙ sym m) s in
     record {
-      colors = eqb-true (length f.colors) (3 * n) (both_left a (b && c) p);
+      colors = eqb-true (length f.colors) (3 * n) (and_parts a (b && c) p).0;
       coverages = k;
       marks = m;
       low = λ i. mark_low (get_or f.marks i 0) (get_or f.coverages i 0) (at i);
@@ -119,8 +119,8 @@ accepted f w h p = go (sizes_ok w h) refl (lengths_ok f (w * h)) refl (marks_ok 
     go true hs false hl m hm q = absurd (omega arith)
     go true hs true hl false hm q = absurd (omega arith)
     go true hs true hl true hm q =
-        let a = size_range w (both_left (size_ok w) (size_ok h) hs) in
-        let b = size_range h (both_right (size_ok w) (size_ok h) hs) in
+        let a = size_range w (and_parts (size_ok w) (size_ok h) hs).0 in
+        let b = size_range h (and_parts (size_ok w) (size_ok h) hs).1 in
         record { width = a; height = b; few = pixels_le w h a.1 b.1; fit = lengths_fit f (w * h) hl hm }
 
 -- and such a frame is not refused

@@ -13,14 +13,14 @@ use lib.Seq.{get_or-set_same, get_or-set_other}
 use Rattle.frame_pixel.specs.declared.Pixel.{Pixel}
 use Rattle.frame_pixel.specs.Marks.{color_marked, coverage_marked}
 use Rattle.frame_pixel.specs.Knows.{KnowsPixel, AllKnownPixel}
-use Rattle.num_float.proofs.Tests.{never}
+use Rattle.std.proofs.lemmas.Bool.{false≢true}
 use Rattle.frame.specs.Frame.{Frame, pixel_at, put_pixel}
 use Rattle.frame.specs.Knows.{KnowsFrame, AllKnown}
 
 -- ---- one list
 -- what a test reads back is what was stored, unless nothing was
 read_back : (t : ℕ → Bool) → t 0 ≡ false → (l : List ℕ) (i a : ℕ) → t (get_or (set l i a) i 0) ≡ true → t a ≡ true
-read_back t z [] i a p = never (sym z ∙ p)
+read_back t z [] i a p = absurd (false≢true (sym z ∙ p))
 read_back t z (x ∷ l) zero a p = p
 read_back t z (x ∷ l) (suc i) a p = read_back t z l i a p
 
@@ -35,7 +35,7 @@ same_back (x ∷ l) (y ∷ k) (suc i) a e = same_back l k i a (omega arith)
 read_more :
     (t : ℕ → Bool) → t 0 ≡ false → (l k : List ℕ) (i a b : ℕ) → length k ≡ length l → (t a ≡ true → t b ≡ true)
     → t (get_or (set l i a) i 0) ≡ true → t (get_or (set k i b) i 0) ≡ true
-read_more t z [] k i a b e h p = never (sym z ∙ p)
+read_more t z [] k i a b e h p = absurd (false≢true (sym z ∙ p))
 read_more t z (x ∷ l) [] i a b e h p = absurd (omega arith)
 read_more t z (x ∷ l) (y ∷ k) zero a b e h p = h p
 read_more t z (x ∷ l) (y ∷ k) (suc i) a b e h p = read_more t z l k i a b (omega arith) h p

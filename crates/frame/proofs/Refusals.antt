@@ -17,7 +17,8 @@ use lib.Seq.{drop-cons}
 use Rattle.frame_pixel.specs.Marks.{highest_mark, coverage_marked}
 use Rattle.frame.specs.Checks.{mark_ok, marks_ok}
 use Rattle.frame.specs.Finding.{every, at_most, coverage_unmarked}
-use Rattle.num_float.proofs.Tests.{both_left, both_right, and_true}
+use Rattle.std.proofs.lemmas.Bool.{and_parts}
+use Rattle.std.proofs.Math.Bool.{and-true}
 
 together : (a b c : Bool) → ((a && b) && c) ≡ (a && (b && c))
 together true b c = refl
@@ -29,7 +30,7 @@ module _ (ok : Bool) {rest all : Bool} where
   found_next next {test = test} g more inv = (λ j. (ok && g j) && next) ∙ together ok test next ∙ (λ j. ok && sym more j) ∙ inv
 
   pub found_done : true ≡ rest → (ok && rest) ≡ all → ok ≡ all
-  found_done e inv = sym (and_true ok) ∙ (λ j. ok && e j) ∙ inv
+  found_done e inv = sym (and-true ok) ∙ (λ j. ok && e j) ∙ inv
 
 -- ---- one list: what was found of the numbers before i, and the rest
 module _ (test : ℕ → Bool) (l : List ℕ) where
@@ -50,8 +51,8 @@ module _ (test : ℕ → Bool) (l : List ℕ) where
 pub every_at : (test : ℕ → Bool) (l : List ℕ) (i : ℕ) → every test l ≡ true → i < length l → test (get_or l i 0) ≡ true
 unfolding every
 every_at test [] i p h = absurd (omega arith)
-every_at test (n ∷ ns) zero p h = both_left (test n) (every test ns) p
-every_at test (n ∷ ns) (suc i) p h = every_at test ns i (both_right (test n) (every test ns) p) (omega arith)
+every_at test (n ∷ ns) zero p h = (and_parts (test n) (every test ns) p).0
+every_at test (n ∷ ns) (suc i) p h = every_at test ns i (and_parts (test n) (every test ns) p).1 (omega arith)
 
 -- ---- the rest of the coverages and of the marks
 marks_nil : (cs : List ℕ) → true ≡ marks_ok cs []
@@ -172,7 +173,7 @@ marks_unmarked (c ∷ cs) (m ∷ ms) p q =
     let b = coverage_unmarked m in
     let r = every (at_most highest_mark) ms in
     let s = every coverage_unmarked ms in
-    λ i. (sym (both_left a r p) i && (sym (both_left b s q) i || leb c 7)) && marks_unmarked cs ms (both_right a r p) (both_right b s q) i
+    λ i. (sym (and_parts a r p).0 i && (sym (and_parts b s q).0 i || leb c 7)) && marks_unmarked cs ms (and_parts a r p).1 (and_parts b s q).1 i
 
 pub marks_marked :
     (cs ms : List ℕ) → length cs ≡ length ms → every (at_most highest_mark) ms ≡ true → every coverage_marked ms ≡ true → every (at_most 7) cs ≡ marks_ok cs ms
@@ -185,4 +186,4 @@ marks_marked (c ∷ cs) (m ∷ ms) e p q =
     let b = coverage_marked m in
     let r = every (at_most highest_mark) ms in
     let s = every coverage_marked ms in
-    λ i. (sym (both_left a r p) i && (not (sym (both_left b s q) i) || leb c 7)) && marks_marked cs ms (omega arith) (both_right a r p) (both_right b s q) i
+    λ i. (sym (and_parts a r p).0 i && (not (sym (and_parts b s q).0 i) || leb c 7)) && marks_marked cs ms (omega arith) (and_parts a r p).1 (and_parts b s q).1 i

@@ -8,7 +8,7 @@ use borrow.Author.Tests.{leb-true}
 use lib.Dec.{leb, eqb}
 use lib.Ieee.{Float}
 use lib.ListN.{length}
-use Rattle.num_float.proofs.Tests.{both_left, both_right}
+use Rattle.std.proofs.lemmas.Bool.{and_parts}
 use Rattle.state.specs.declared.RenderMode.{RenderMode}
 use Rattle.combiner.specs.declared.Combiner.{Combiner}
 use Rattle.std.specs.Prelude.{Option, Some, None, Result, Ok, Err}
@@ -92,8 +92,7 @@ module _ (f : Frame) (w h : ℕ) (s : Scissor) (vs : List Float) (ps is : List �
       let three = flags_ok ps && four in
       let two = eqb (length vs) (6 * length ps) && three in
       leb-true (length is) 12288
-      (both_right (eqb (length is % 3) 0) last
-      (both_right (flags_ok ps) four (both_right (eqb (length vs) (6 * length ps)) three (both_right (leb (length ps) 4096) two p))))
+      (and_parts (eqb (length is % 3) 0) last (and_parts (flags_ok ps) four (and_parts (eqb (length vs) (6 * length ps)) three (and_parts (leb (length ps) 4096) two p).1).1).1).1
 
   sized_by : w ≤ 1024 → h ≤ 1024 → scissor_ok s ≡ true → Sized s w h
   unfolding scissor_ok
@@ -102,15 +101,15 @@ module _ (f : Frame) (w h : ℕ) (s : Scissor) (vs : List Float) (ps is : List �
       let t = leb s.top 65535 in
       let x = leb s.width 65535 in
       let y = leb s.height 65535 in
-      let p₂ : (t && (x && y)) ≡ true = both_right l (t && (x && y)) p in
-      let p₃ : (x && y) ≡ true = both_right t (x && y) p₂ in
+      let p₂ : (t && (x && y)) ≡ true = (and_parts l (t && (x && y)) p).1 in
+      let p₃ : (x && y) ≡ true = (and_parts t (x && y) p₂).1 in
       record {
         width_small = a;
         height_small = b;
-        left_small = leb-true s.left 65535 (both_left l (t && (x && y)) p);
-        top_small = leb-true s.top 65535 (both_left t (x && y) p₂);
-        across_small = leb-true s.width 65535 (both_left x y p₃);
-        down_small = leb-true s.height 65535 (both_right x y p₃);
+        left_small = leb-true s.left 65535 (and_parts l (t && (x && y)) p).0;
+        top_small = leb-true s.top 65535 (and_parts t (x && y) p₂).0;
+        across_small = leb-true s.width 65535 (and_parts x y p₃).0;
+        down_small = leb-true s.height 65535 (and_parts x y p₃).1;
       }
 
   entered_by : (k : ℕ) → k ≡ frame_refusal f w h → (b : Bool) → scissor_ok s ≡ b → (c : Bool) → inputs_ok vs ps is ≡ c → or_else k (cond b (cond c 0 5) 4) ≡ 0 → Entered

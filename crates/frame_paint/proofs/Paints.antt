@@ -26,8 +26,7 @@ use Rattle.frame_pixel.specs.declared.full.Full.{Full}
 use Rattle.frame_pixel.specs.Rules.{pixel_step}
 use Rattle.frame_pixel.specs.Coloring.{own_colors}
 use Rattle.frame_pixel.specs.Full.{FullOf}
-use Rattle.std.proofs.lemmas.Bool.{not-true}
-use Rattle.num_float.proofs.Tests.{both_left, both_right}
+use Rattle.std.proofs.lemmas.Bool.{not-true, and_parts}
 use Rattle.frame_pixel.proofs.Colorings.{opaque_step, unshaded_step}
 use Rattle.num_bits.specs.Ones.{ones_of}
 use Rattle.frame.specs.Frame.{Frame, pixel_at, put_pixel}
@@ -39,7 +38,7 @@ use Rattle.frame_paint.specs.Paint.{Own}
 -- every pixel of a triangle has the colour, if what full pixels need is enough for it and no shade is used
 module _ (k : Combiner) {c : Rgba} {even shaded : Bool} where
   pub all_colored : color_of k full_shade ≡ color_value c → shaded ≡ shade_used k → (even && not shaded) ≡ true → (even ≡ true) × ((s : Rgba) → color_of k s ≡ color_value c)
-  all_colored ec eh o = (both_left even (not shaded) o, λ s. flat_color k s full_shade (sym eh ∙ not-true _ (both_right even (not shaded) o)) ∙ ec)
+  all_colored ec eh o = ((and_parts even (not shaded) o).0, λ s. flat_color k s full_shade (sym eh ∙ not-true _ (and_parts even (not shaded) o).1) ∙ ec)
 
 -- ---- the bytes of an opaque pixel: P is the pixel's colour, or does not turn on it
 module _ (mode : RenderMode) (k : Combiner) {c : Rgba} {full : Full} {mux : Mux} {own : Option Colors} where

@@ -1,5 +1,4 @@
--- What several proofs of `num_float` share, and laws of Booleans, which other crates cite too.
-pub mod Tests
+-- What several proofs of `num_float` share, and other crates cite too.
 pub mod Values
 pub mod Scaled
 pub mod Cut

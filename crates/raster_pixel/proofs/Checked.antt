@@ -14,7 +14,7 @@ use Rattle.raster_vertex.specs.declared.Vertex.{Vertex}
 use Rattle.raster_vertex.specs.declared.Triangle.{Triangle}
 use Rattle.raster_vertex.specs.Range.{in_range}
 use Rattle.raster_vertex.specs.Sorted.{sorted}
-use Rattle.num_float.proofs.Tests.{both_left, both_right}
+use Rattle.std.proofs.lemmas.Bool.{and_parts}
 use Rattle.raster_vertex.proofs.Quarters.{quarter_x, quarter_y}
 use Rattle.raster_vertex.proofs.Ordered.{Each, InRange, sorted_length, sorted_each}
 use Rattle.raster_edges.specs.Limits.{Near, AllNear}
@@ -53,13 +53,13 @@ list_all-range p (suc n) i = ap (λ (b : Bool). p i && b) (list_all-range p n (i
 pub all_at : (p : ℕ → Bool) (n i : ℕ) → all p n i ≡ true → (j : ℕ) → i ≤ j → j < i + n → p j ≡ true
 unfolding all
 all_at p zero i h j a b = absurd (omega arith)
-all_at p (suc n) i h j a b = by (dec_le (i + 1) j) (λ k. all_at p n (i + 1) (both_right (p i) (all p n (i + 1)) h) j k (omega arith))
+all_at p (suc n) i h j a b = by (dec_le (i + 1) j) (λ k. all_at p n (i + 1) (and_parts (p i) (all p n (i + 1)) h).1 j k (omega arith))
   where
     by : Dec (i + 1 ≤ j) → (i + 1 ≤ j → p j ≡ true) → p j ≡ true
     by (yes k) later = later k
     by (no k) later =
         let e : j ≡ i = omega arith in
-        ap p e ∙ both_left (p i) (all p n (i + 1)) h
+        ap p e ∙ (and_parts (p i) (all p n (i + 1)) h).0
 
 -- ---- a triangle with no failing check: its vertices are there and in range
 abbrev pub AllIn : Option Triangle → Type 0

@@ -7,7 +7,7 @@ use native.Mathlib.Decide.{dec_le}
 use lib.Bits.{bit_and, and_high}
 use lib.Dec.{eqb, ltb, leb}
 use borrow.Author.Tests.{ltb-true, le-leb, lt-leb, eq-eqb, ne_eqb}
-use Rattle.num_float.proofs.Tests.{both_left}
+use Rattle.std.proofs.lemmas.Bool.{and_parts}
 use Rattle.raster_edges.specs.declared.Edges.{Edges}
 use Rattle.raster_edges.specs.Sample.{mask_of}
 use Rattle.raster_edges.proofs.Pairs.{pair_lt}
@@ -33,7 +33,7 @@ rect_lt s x y = omega (arith, bit 0 0, bit 0 1, bit 1 0, bit 1 1, bit 2 0, bit 2
 
 -- ---- that of a pixel that is emitted
 pub shown_some : (antialias : Bool) (mask : ℕ) → shown antialias mask ≡ true → 0 < mask
-shown_some antialias mask h = ltb-true 0 mask (both_left (ltb 0 mask) (antialias || leb 128 mask) h)
+shown_some antialias mask h = ltb-true 0 mask (and_parts (ltb 0 mask) (antialias || leb 128 mask) h).0
 
 -- ---- bit 7 of a byte
 pub high_bit : (m : ℕ) → m < 256 → not (eqb (bit_and m 128) 0) ≡ leb 128 m

@@ -10,7 +10,7 @@ use lib.ListN.{length, get_or}
 use Rattle.frame_pixel.specs.declared.Pixel.{Pixel}
 use Rattle.frame_pixel.specs.Marks.{color_marked, coverage_marked, coverage_of}
 use Rattle.blender.specs.Blend.{or_zero}
-use Rattle.num_float.proofs.Tests.{never, both_right}
+use Rattle.std.proofs.lemmas.Bool.{false≢true, and_parts}
 use Rattle.words_pack.specs.declared.FramebufferEncoding.{FramebufferEncoding}
 use Rattle.std.specs.Prelude.{None}
 use Rattle.words_pack.specs.declared.Bytes2.{Bytes2}
@@ -41,7 +41,7 @@ module _ {w p : ℕ} {q : Place} (a : At w p q) where
 
 -- ---- what number 10 leaves for 16 bits: a known coverage
 marked_for_two : (mark : ℕ) → readable mark 2 ≡ true → coverage_marked mark ≡ true
-marked_for_two mark h = go (coverage_marked mark) (both_right (color_marked mark) (coverage_marked mark || not (eqb 2 2)) h)
+marked_for_two mark h = go (coverage_marked mark) (and_parts (color_marked mark) (coverage_marked mark || not (eqb 2 2)) h).1
   where
     go : (b : Bool) → (b || false) ≡ true → b ≡ true
     go true p = refl
@@ -92,7 +92,7 @@ module _ (w fmt p dither : ℕ) (e : FramebufferEncoding) (c : Pixel) where
           → word_at siz (p % w) (p / w) dither e (bytes_of c) c.coverage ≡ word_by (writer_by w fmt siz) p dither e c
       go true u b v h = subst Goal (sym (eqb-true siz 2 u)) two s r
       go false u true v h = subst Goal (sym (eqb-true siz 1 v)) (λ x y. one x) s r
-      go false u false v h = never h
+      go false u false v h = absurd (false≢true h)
 
 -- ---- a pixel that numbers 1 to 9 let through
 module _ (a : ReadArgs) (w h : ℕ) (f : Frame) (z : frame_refusal f w h ≡ 0) (p : a.pixel < length f.marks) (s : supported_of (writer_of a w) ≡ true) where
