@@ -1,11 +1,12 @@
 // What does not turn on the pixel is worked out once a draw: the combiner resolved, the colour that it gives for the shade 1.0, the bytes that every opaque pixel has unless P
 // is the pixel's colour, what full pixels of that colour need, whether that is enough for them, and whether a triangle's pixels all have it.
-ghost use Rattle.std.specs.Prelude.{◌≡◌, true, ◌||◌};
+ghost use Rattle.std.specs.Prelude.{◌≡◌, true, ◌||◌, Some, None, ◌==◌, if◌then◌else◌};
 ghost use Rattle.state.specs.declared.Rgba.{Rgba};
 ghost use Rattle.combiner.specs.Combine.{color_of, full_shade};
 ghost use Rattle.combiner_resolved.specs.Resolved.{color_value, resolved_of, Mixed};
+ghost use Rattle.blender.specs.Mux.{mux_of};
 ghost use Rattle.blender.specs.Layer.{steady_of};
-ghost use Rattle.frame_pixel.specs.Coloring.{ColoringOf};
+ghost use Rattle.frame_pixel.specs.Coloring.{own_colors, ColoringOf};
 ghost use Rattle.frame_pixel.specs.Full.{FullOf};
 ghost use Rattle.frame_paint.specs.Paint.{Own};
 
@@ -57,6 +58,7 @@ pub fn prepare(mode: RenderMode, combiner: Combiner) -> Paint
     requires { Mixed combiner }
     ensures same_mode { result.mode ≡ mode }
     ensures same_combiner { result.combiner ≡ combiner }
+    ensures own { result.own ≡ (if (mux_of mode.blender_mux).p == 0 then None else Some (own_colors mode combiner result.color)) }
 {
     let resolved = combiner_resolved::resolve(combiner);
     let color = combiner.color(combiner::full_shade()).unwrap();
