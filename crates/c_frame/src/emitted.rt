@@ -12,7 +12,7 @@ use frame_draw::DrawCall;
 use frame_emitted::{Emitted, Listed};
 use refused::Refusal;
 
-// The number (docs/RULES.md), and an emitted pixel with its mask, zeros where there is none.
+// The number (docs/RULES.md), and an emitted pixel with its mask, zeros where there is none, as C has no Option and no Result.
 #[repr(C)]
 #[derive(Clone, Copy)]
 pub struct EmittedAnswer {
@@ -45,7 +45,7 @@ impl From<Result<Option<Emitted>, Refusal>> for EmittedAnswer {
     }
 }
 
-// The run's number, how many slots have a pixel, and how many pixels the draw emits.
+// The run's number, how many slots have a pixel, and how many pixels the draw emits, as C has no Option and no Result.
 #[repr(C)]
 #[derive(Clone, Copy)]
 pub struct ListedAnswer {

@@ -18,6 +18,7 @@ use frame_draw::{DrawCall, Engine};
 use raster_pixel::{Geometry, Lists, Scissor};
 use refused::Refusal;
 use state::{CombinerUniform, RenderMode};
+use words_read::Format;
 
 pub mod emitted; // the emitted pixels of a draw
 
@@ -31,7 +32,7 @@ pub fn engine_of(number: u8) -> Engine
     }
 }
 
-// The number (docs/RULES.md) and the count of pixels emitted, with repeats.
+// The number (docs/RULES.md) and the count of pixels emitted, with repeats, as C has no Option and no Result.
 #[repr(C)]
 #[derive(Clone, Copy)]
 pub struct DrawnAnswer {
@@ -53,7 +54,7 @@ impl From<Result<u64, Refusal>> for DrawnAnswer {
     }
 }
 
-// The run's own number and how many words it read.
+// The run's own number and how many words it read, as C has no Option and no Result. It differs from DrawnAnswer in names only: those are C's.
 #[repr(C)]
 #[derive(Clone, Copy)]
 pub struct RanAnswer {
@@ -102,6 +103,7 @@ pub fn draw_call<'a>(
     }
 }
 
+// A frame stays three slices with its sizes in these calls: C lends it so, and the library's calls take it so.
 pub fn draw(
     engine: u8,
     width: u32,
@@ -140,10 +142,13 @@ pub fn read_word(
 ) -> Answer
     ensures { result ≡ word_answer (read_answer (read_from pixel fmt siz rgb_dither big_endian) width height (frame_of colors.now coverages.now marks.now)) }
 {
-    let order = byte_order(big_endian);
-    let answer = words_read::read_word(
-        width, height, colors, coverages, marks, pixel, fmt, siz, rgb_dither, order,
-    );
+    let format = Format {
+        fmt,
+        siz,
+        rgb_dither,
+        encoding: byte_order(big_endian),
+    };
+    let answer = words_read::read_word(width, height, colors, coverages, marks, pixel, format);
     Answer::from(answer)
 }
 
@@ -165,9 +170,14 @@ pub fn read_words(
     ensures words { new words ≡ (run_answer (read_from first fmt siz rgb_dither big_endian) width height (frame_of colors.now coverages.now marks.now) (old words) (old numbers)).words }
     ensures numbers { new numbers ≡ (run_answer (read_from first fmt siz rgb_dither big_endian) width height (frame_of colors.now coverages.now marks.now) (old words) (old numbers)).numbers }
 {
-    let order = byte_order(big_endian);
+    let format = Format {
+        fmt,
+        siz,
+        rgb_dither,
+        encoding: byte_order(big_endian),
+    };
     let answer = words_run::read_words(
-        width, height, colors, coverages, marks, first, fmt, siz, rgb_dither, order, words, numbers,
+        width, height, colors, coverages, marks, first, format, words, numbers,
     );
     RanAnswer::from(answer)
 }

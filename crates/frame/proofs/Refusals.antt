@@ -18,16 +18,12 @@ use Rattle.frame_pixel.specs.Marks.{highest_mark, coverage_marked}
 use Rattle.frame.specs.Checks.{mark_ok, marks_ok}
 use Rattle.frame.specs.Finding.{every, at_most, coverage_unmarked}
 use Rattle.std.proofs.lemmas.Bool.{and_parts}
-use Rattle.std.proofs.Math.Bool.{and-true}
-
-together : (a b c : Bool) → ((a && b) && c) ≡ (a && (b && c))
-together true b c = refl
-together false b c = refl
+use Rattle.std.proofs.Math.Bool.{and-true, and_assoc}
 
 -- ---- a loop: what was found and the rest decide
 module _ (ok : Bool) {rest all : Bool} where
   pub found_next : (next : Bool) {good test : Bool} → good ≡ test → rest ≡ (test && next) → (ok && rest) ≡ all → ((ok && good) && next) ≡ all
-  found_next next {test = test} g more inv = (λ j. (ok && g j) && next) ∙ together ok test next ∙ (λ j. ok && sym more j) ∙ inv
+  found_next next {test = test} g more inv = (λ j. (ok && g j) && next) ∙ and_assoc ok test next ∙ (λ j. ok && sym more j) ∙ inv
 
   pub found_done : true ≡ rest → (ok && rest) ≡ all → ok ≡ all
   found_done e inv = sym (and-true ok) ∙ (λ j. ok && e j) ∙ inv
@@ -66,7 +62,7 @@ unfolding marks_ok
 marks_parts [] [] ds ns e = refl
 marks_parts [] (m ∷ ms) ds ns e = absurd (omega arith)
 marks_parts (c ∷ cs) [] ds ns e = absurd (omega arith)
-marks_parts (c ∷ cs) (m ∷ ms) ds ns e = (λ j. mark_ok m c && marks_parts cs ms ds ns (omega arith) j) ∙ sym (together (mark_ok m c) (marks_ok cs ms) (marks_ok ds ns))
+marks_parts (c ∷ cs) (m ∷ ms) ds ns e = (λ j. mark_ok m c && marks_parts cs ms ds ns (omega arith) j) ∙ sym (and_assoc (mark_ok m c) (marks_ok cs ms) (marks_ok ds ns))
 
 module _ (cs ms : List ℕ) where
   pub marks_none : {i : ℕ} → length ms ≤ i → true ≡ marks_ok (drop i cs) (drop i ms)

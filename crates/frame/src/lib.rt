@@ -97,7 +97,8 @@ pub const UNKNOWN: Colors = Colors {
     blue: 0,
 };
 
-// The bytes of a pixel as far as they are known.
+// The bytes of a pixel as far as they are known. This and `put_pixel` take the slices themselves, as `store` does: the loop of `fill_run` (frame_paint), which stores by it, has no
+// struct of them, since through a &mut of one nothing is hoisted.
 pub fn known_pixel(colors: &[u8], coverages: &[u8], marks: &[u8], pixel: usize) -> Pixel
     requires { Loadable (frame_of colors.now coverages.now marks.now) pixel }
     ensures { result ≡ known_pixel (pixel_at (frame_of colors.now coverages.now marks.now) pixel) }
@@ -125,7 +126,7 @@ fn put_byte(bytes: &mut [u8], at: usize, known: bool, byte: u8)
 }
 
 // Stores a pixel: its colours if they are known, its coverage if it is given, and its mark. Flags with values beside them: with an Option for each, a run of pixels laid
-// over the memory's colour takes a twelfth longer.
+// over the memory's colour takes a twelfth longer. `Long` is said in the contract, here and in `put_pixel`, since bare slices have no type to hold it.
 pub fn store(
     colors: &mut [u8],
     coverages: &mut [u8],

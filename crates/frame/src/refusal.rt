@@ -21,6 +21,7 @@ const COVERAGE: u8 = 7;
 const PART: usize = 32;
 
 // What marks and, where every one is marked, coverages tell of number 3. Mixed: no mark is too high, and some coverages are marked and some not.
+// An enum and no Option<bool>: Mixed asks for another pass.
 #[derive(Clone, Copy)]
 pub enum Finding {
     Good,
@@ -91,7 +92,7 @@ struct Marked<'a> {
 }
 
 impl Marked<'_> {
-    // The one pass over all coverages, where every one is marked. It has no branch either.
+    // The one pass over all coverages, where every one is marked. It has no branch either. It goes by index: a coverage is loaded by `load` alone, with its mark.
     fn all_low(&self) -> bool
         requires { every coverage_marked self.now.marks.now ≡ true }
         ensures { result ≡ every (at_most 7) self.now.coverages.now }
@@ -104,6 +105,7 @@ impl Marked<'_> {
     }
 
     // One pixel after the other: for marks of which some, not all, mark a coverage. The one branch is whether a coverage may be loaded.
+    // It goes by index, as `all_low` does.
     fn mixed_ok(&self) -> bool
         requires { every (at_most highest_mark) self.now.marks.now ≡ true }
         ensures { result ≡ marks_ok self.now.coverages.now self.now.marks.now }
@@ -137,6 +139,7 @@ impl Marked<'_> {
         }
     }
 
+    // `marks_ok` but for what mixed marks ask: here each pixel is looked at, there each part.
     #[tactic(auto, unfolding(crate::specs::Finding::Tells))]
     fn part_ok(&self) -> bool
         ensures { result ≡ marks_ok self.now.coverages.now self.now.marks.now }

@@ -1,5 +1,6 @@
 // A draw over the lent frame (docs/RULES.md, A draw). What it is turned away for is checked before anything is written. The frame comes as the three slices that a host
-// lends: before numbers 1 to 3 nothing says that they are a frame.
+// lends: before numbers 1 to 3 nothing says that they are a frame. Nor is there a struct of them for the public calls: a draw lends three &muts, whose struct would need clauses
+// that each stays the same loan, and it is of what was lent, byte for byte, that a draw promises. The calls that only read take the frame in the same form.
 #![tactic(auto)]
 
 ghost use Rattle.std.specs.Prelude.{◌≡◌};

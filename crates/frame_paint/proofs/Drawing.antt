@@ -3,7 +3,6 @@
 use mathlib.Core.Path.{◌≡◌, refl, sym, subst, ◌∙◌}
 use mathlib.Core.List.{List, []}
 use Prim.Native.Nat.{ℕ, ◌+◌, ◌*◌, ◌≤◌, ◌<◌}
-use native.Mathlib.Nat.{suc-mul, mul_comm, mul-le-mul_right}
 use native.Mathlib.Omega.{arith}
 use lib.ListN.{length}
 use Rattle.state.specs.declared.RenderMode.{RenderMode}
@@ -32,12 +31,6 @@ same_refl t = record { view = refl; colors = refl; coverages = refl; marks = ref
 pub same_then : {t u v : Target} → SameLoans t u → SameLoans u v → SameLoans t v
 same_then a b =
     record { view = b.view ∙ a.view; colors = b.colors ∙ a.colors; coverages = b.coverages ∙ a.coverages; marks = b.marks ∙ a.marks }
-
--- the pixels of row y up to column x are there
-pub row_in : (t : Target) {y x : ℕ} → y < t.view.height → x ≤ t.view.width → y * t.view.width + x ≤ length (seen t).marks
-row_in t {y} {x} below across =
-    let w = t.view.width in
-    omega (arith, t.fit.marks, suc-mul y w, mul-le-mul_right w below, mul_comm w t.view.height)
 
 -- ---- the same pixels, or their count, said otherwise
 pub drew_as :

@@ -13,6 +13,7 @@ use Rattle.raster_pixel.specs.declared.Fragment.{Fragment}
 use Rattle.raster_pixel.specs.Emitted.{shown, emits}
 use Rattle.raster_pixel.specs.Parts.{from}
 use Rattle.raster_pixel.specs.declared.row.Row.{Row}
+use Rattle.raster_pixel.proofs.Counts.{emits_most}
 use Rattle.raster_pixel.proofs.Parts.{parts_bound, from_one, from_same, from_shift}
 use Rattle.frame_paint.specs.declared.Target.{Target}
 use Rattle.frame_paint.specs.declared.prepare.Paint.{Paint}
@@ -22,9 +23,6 @@ use Rattle.frame_paint.specs.Row.{painted, fragment_of, row_at, full_pixel, Runs
 use Rattle.frame_paint.proofs.Drawing.{drew_as, drew_count}
 
 -- ---- how many pixels a row emits
-emits_most : (r : Option Fragment) (p : ℕ) → length (emits r p) ≤ 1
-emits_most r p = grind (arith, common_steps)
-
 pub row_most : (paint : Paint) (shades : Option ShadeRow) (e : Edges) (w y a b : ℕ) → length (from (row_at paint shades e w y) a b) ≤ b - a
 row_most paint shades e w y a b = omega (arith, parts_bound (row_at paint shades e w y) 1 (λ x. emits_most _ _) (b - a) a)
 

@@ -64,7 +64,7 @@ fn fill_pixel(colors: &mut [u8], coverages: &mut [u8], marks: &mut [u8], full: F
 }
 
 // A run of pixels from the first up to the last, each with all its samples. The slices themselves and no target: through a &mut in the loop nothing is hoisted,
-// and a run takes three times as long.
+// and a run takes more than three times as long. So `Long` and `Fit` stand in these contracts, and in no type.
 pub fn fill_run(
     colors: &mut [u8],
     coverages: &mut [u8],

@@ -22,7 +22,8 @@ pub fn fragment_source(fragment: Fragment) -> Source
     }
 }
 
-// F1 to F5 at a pixel's place. What is known ahead of it is asked after the bytes are read: so it goes through no memory.
+// F1 to F5 at a pixel's place. What is known ahead of it is asked after the bytes are read: so it goes through no memory. Target and paint stay two parameters: one is written, and
+// the other only read. That the mask is not 0 is a clause, since the definitions to be believed build a Fragment of any mask.
 pub fn draw_pixel(target: &mut Target, paint: &Paint, fragment: Fragment, pixel: usize)
     requires mask_nonzero { 0 < fragment.mask }
     requires pixel_in_bounds { pixel < target.old.view.width * target.old.view.height }

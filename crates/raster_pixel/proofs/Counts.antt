@@ -28,7 +28,7 @@ use Rattle.raster_pixel.specs.Emitted.{emits, inside, corner_of, triangle_fragme
 use Rattle.raster_pixel.specs.Admitted.{triangle_at}
 use Rattle.raster_pixel.proofs.Parts.{parts_bound}
 
-emits_most : (f : Option Fragment) (p : ℕ) → length (emits f p) ≤ 1
+pub emits_most : (f : Option Fragment) (p : ℕ) → length (emits f p) ≤ 1
 emits_most None p = omega arith
 emits_most (Some f) p = omega arith
 

@@ -1,5 +1,5 @@
 // The pixels of a draw on the lent frame (writeback.rs, `rasterize`): those of a rectangle, or of the triangles of a list. Each call draws its part and answers how
-// many pixels that emitted.
+// many pixels that emitted. Target and paint stay two parameters: one is written, and the other only read.
 #![tactic(auto)]
 
 ghost use Rattle.raster_pixel.specs.Draw.{emitted_as};

@@ -3,14 +3,10 @@ use mathlib.Core.Path.{◌≡◌, refl}
 use mathlib.Core.Bool.{true, false}
 use Prim.Native.Nat.{ℕ, zero, suc, ◌*◌, ◌≤◌, ◌<◌}
 use native.Mathlib.Omega.{arith}
-use lib.Dec.{lit≤}
 use lib.ListN.{length, get_or}
 use Rattle.std.proofs.lemmas.Bool.Decides.{nat_tests}
 use Rattle.words_pack.specs.declared.Writer.{Writer}
 use Rattle.words_pack.specs.Writer.{color_supported, supported_of}
-use Rattle.refused.specs.declared.Refusal.{Refusal}
-use Rattle.refused.specs.declared.Refusal.TheVariants as refusal
-use Rattle.refused.specs.Numbers.{number_of}
 use Rattle.frame.specs.Frame.{Frame, pixel_at}
 use Rattle.frame.specs.Checks.{or_else, frame_refusal}
 use Rattle.words_read.specs.Read.{ReadArgs, writer_of, readable, word_refusal, read_refusal, WordAnswer, no_word, word_of, word_or, read_answer}
@@ -22,21 +18,6 @@ unfolding supported_of color_supported
 supported_siz x h d = grind (arith, nat_tests)
 
 -- ---- the answers
-pub numbered : (e : Refusal) → 1 ≤ number_of e
-numbered refusal.Size = lit≤ tt
-numbered refusal.Lengths = lit≤ tt
-numbered refusal.Marks = lit≤ tt
-numbered refusal.Scissor = lit≤ tt
-numbered refusal.Lists = lit≤ tt
-numbered refusal.Combiner = lit≤ tt
-numbered refusal.Geometry = lit≤ tt
-numbered refusal.Pixel = lit≤ tt
-numbered refusal.Writer = lit≤ tt
-numbered refusal.Unknown = lit≤ tt
-numbered refusal.Arguments = lit≤ tt
-numbered refusal.Words = lit≤ tt
-numbered refusal.Slots = lit≤ tt
-
 abbrev pub refused : ℕ → WordAnswer
 refused k = record { number = k; word = no_word }
 

@@ -1,4 +1,4 @@
--- Inner vocabulary. A word read by its format. Definitions only.
+-- To be believed. What a word read is asked for: a pixel, and a format as a call is given it. Definitions only.
 use Rattle.std.specs.Prelude.{ℕ}
 use Rattle.words_read.specs.declared.Format.{Format}
 use Rattle.words_read.specs.Read.{ReadArgs, read_args}

@@ -4,7 +4,7 @@
 ghost use Rattle.std.specs.Prelude.{◌≡◌};
 ghost use Rattle.frame.specs.Frame.{frame_of};
 ghost use Rattle.frame.specs.Shown.{seen};
-ghost use Rattle.words_read.specs.Read.{writer_by, word_means, read_args, read_answer, Numbered};
+ghost use Rattle.words_read.specs.Read.{writer_by, word_means, read_answer, Numbered};
 ghost use Rattle.words_read.specs.Format.{args_of};
 
 use frame::Frame;
@@ -67,7 +67,8 @@ fn read(frame: &Frame, pixel: usize, format: Format) -> Result<Bytes2, Refusal>
     Ok(word)
 }
 
-// The word of a pixel, where its colour, and its coverage for 16 bits, is known: numbers 1 to 3 and 8 to 10.
+// The word of a pixel, where its colour, and its coverage for 16 bits, is known: numbers 1 to 3 and 8 to 10. The frame comes as three slices, as a
+// draw takes it (frame_draw says why).
 #[tactic(auto, using(crate::proofs::Reading::read_refused))]
 pub fn read_word(
     width: u32,
@@ -76,20 +77,11 @@ pub fn read_word(
     coverages: &[u8],
     marks: &[u8],
     pixel: usize,
-    fmt: u8,
-    siz: u8,
-    rgb_dither: u8,
-    encoding: FramebufferEncoding,
+    format: Format,
 ) -> Result<Bytes2, Refusal>
-    ensures answer { word_means result ≡ read_answer (read_args pixel fmt siz rgb_dither encoding) width height (frame_of colors.now coverages.now marks.now) }
+    ensures answer { word_means result ≡ read_answer (args_of format pixel) width height (frame_of colors.now coverages.now marks.now) }
     ensures number { Numbered result }
 {
     let frame = Frame::new(width, height, colors, coverages, marks)?;
-    let format = Format {
-        fmt,
-        siz,
-        rgb_dither,
-        encoding,
-    };
     read(&frame, pixel, format)
 }

@@ -12,7 +12,7 @@ use Rattle.refused.specs.declared.Refusal.{Refusal}
 use Rattle.refused.specs.Numbers.{number_of}
 use Rattle.words_pack.specs.declared.Bytes2.{Bytes2}
 use Rattle.words_read.specs.Read.{WordAnswer, word_means}
-use Rattle.words_read.proofs.Reading.{numbered}
+use Rattle.refused.proofs.Numbers.{positive}
 use Rattle.words_run.specs.Run.{answers_from, numbers_of, words_of, one_if, count_of, RunAnswer, run_by}
 use Rattle.words_run.specs.Entries.{Entries, entries_of, entry_at, Wrote}
 
@@ -28,7 +28,7 @@ one_none (suc k) n = refl
 
 pub counts : (r : Result Bytes2 Refusal) {b : Bool} {n : ℕ} → n ≡ bool_byte b → b ≡ is_ok r → n ≡ one_if (word_means r).number
 counts (Ok word) e f = e ∙ ap bool_byte f
-counts (Err refusal) e f = e ∙ ap bool_byte f ∙ sym (one_none (number_of refusal) (numbered refusal))
+counts (Err refusal) e f = e ∙ ap bool_byte f ∙ sym (one_none (number_of refusal) (positive refusal))
 
 module _ (answer : ℕ → WordAnswer) where
   pub count_le : (i n : ℕ) → count_of (answers_from answer i n) ≤ n

@@ -70,7 +70,7 @@ fn read(frame: &Frame, pixel: usize, place: Place, format: Format) -> Result<Byt
     Ok(halfword(Rgba8::from(color), coverage, place, format))
 }
 
-// The two slices of a run: two bytes of words for each number.
+// The two slices of a run, as C lends them: two bytes of words for each number.
 #[derive(Drop)]
 pub struct Entries<'a> {
     pub words: &'a mut [u8],

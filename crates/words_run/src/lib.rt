@@ -4,12 +4,11 @@
 ghost use Rattle.std.specs.Prelude.{◌≡◌};
 ghost use Rattle.frame.specs.Frame.{frame_of};
 ghost use Rattle.frame.specs.Lent.{old, new};
-ghost use Rattle.words_read.specs.Read.{read_args};
+ghost use Rattle.words_read.specs.Format.{args_of};
 ghost use Rattle.words_run.specs.Run.{run_means, NumberedRun, run_answer};
 
 use frame::Frame;
 use refused::Refusal;
-use words_pack::FramebufferEncoding;
 use words_read::Format;
 
 mod entry; // the entries of a run
@@ -17,7 +16,7 @@ mod entry; // the entries of a run
 use entry::Entries;
 
 // The words of the pixels from `first` on, as many as there are numbers: each pixel's number and two bytes are those of its single read. It answers how many
-// words were read. Its own refusal is for slices that do not have two bytes for each number; it writes nothing.
+// words were read. Its own refusal is for slices that do not have two bytes for each number; it writes nothing. The frame is three slices, as `read_word` takes it.
 pub fn read_words(
     width: u32,
     height: u32,
@@ -25,14 +24,11 @@ pub fn read_words(
     coverages: &[u8],
     marks: &[u8],
     first: usize,
-    fmt: u8,
-    siz: u8,
-    rgb_dither: u8,
-    encoding: FramebufferEncoding,
+    format: Format,
     words: &mut [u8],
     numbers: &mut [u8],
 ) -> Result<u64, Refusal>
-    ensures answer { run_means result (new words) (new numbers) ≡ run_answer (read_args first fmt siz rgb_dither encoding) width height (frame_of colors.now coverages.now marks.now) (old words) (old numbers) }
+    ensures answer { run_means result (new words) (new numbers) ≡ run_answer (args_of format first) width height (frame_of colors.now coverages.now marks.now) (old words) (old numbers) }
     ensures number { NumberedRun result }
 {
     let count = numbers.len();
@@ -46,12 +42,6 @@ pub fn read_words(
             entries.fill(0, count, refusal);
             return Ok(0);
         }
-    };
-    let format = Format {
-        fmt,
-        siz,
-        rgb_dither,
-        encoding,
     };
     let there = count.min(frame.pixels().saturating_sub(first));
     let read = entries.read_there(&frame, first, format, there);

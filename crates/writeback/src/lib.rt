@@ -28,8 +28,8 @@ pub use raster_pixel::{Geometry, Lists, Scissor};
 pub use raster_rectangle::Sides;
 pub use raster_vertex::Vertex;
 
-// The frame.
+// The frame. A Format has the method writer.
 pub use frame_draw::{DrawCall, Engine, draw};
 pub use frame_emitted::{Emitted, Listed, emitted_pixel, emitted_pixels};
-pub use words_read::read_word;
+pub use words_read::{Format, read_word};
 pub use words_run::read_words;

@@ -7,30 +7,30 @@ use Rattle.frame.proofs.Fits.{seen_good}
 use native.Mathlib.Omega.{arith}
 use Rattle.std.proofs.lemmas.Grind.{common_steps}
 use Rattle.frame.specs.Frame.{frame_of}
-use Rattle.words_read.specs.Read.{read_args}
-use Rattle.words_read.proofs.Reading.{numbered}
+use Rattle.words_read.specs.Format.{args_of}
+use Rattle.refused.proofs.Numbers.{positive}
 use Rattle.words_run.proofs.Ran.{run_unmatched, run_refused, run_read}
 use Rattle.words_run.proofs.read_words.Goals as goal
 
 pub returns-then-words-count-clause-answer : goal.returns-then-words-count-clause-answer
 returns-then-words-count-clause-answer c =
     let a = c.args in
-    let r = read_args a.first a.fmt a.siz a.rgb_dither a.encoding in
+    let r = args_of a.format a.first in
     run_unmatched r _ _ _ c.if-words-count.true
 
 pub returns-in-Err-clause-answer : goal.returns-in-Err-clause-answer
 returns-in-Err-clause-answer c =
     let a = c.args in
-    let r = read_args a.first a.fmt a.siz a.rgb_dither a.encoding in
+    let r = args_of a.format a.first in
     let f = frame_of a.colors.now a.coverages.now a.marks.now in
-    let e = run_refused r a.width a.height f {ws₀ = a.words.now} {ns₀ = a.numbers.now} c.if-words-count.false c.in-Err.ensures.number (numbered c.in-Err.refusal) c.fill.ensures.entries in
+    let e = run_refused r a.width a.height f {ws₀ = a.words.now} {ns₀ = a.numbers.now} c.if-words-count.false c.in-Err.ensures.number (positive c.in-Err.refusal) c.fill.ensures.entries in
     grind (arith, common_steps)
 
 pub returns-clause-answer : goal.returns-clause-answer
 returns-clause-answer c =
     let a = c.args in
     let f = c.in-Ok.frame in
-    let r = read_args a.first a.fmt a.siz a.rgb_dither a.encoding in
+    let r = args_of a.format a.first in
     let there : c.min-there.result ≡ min (length a.numbers.now) (length (seen f).marks - a.first) = omega (arith, c.min-there.ensures, c.saturating_sub.ensures, c.pixels.ensures) in
     let e =
     run_read r f.width f.height (seen f) {ws₀ = a.words.now} {ns₀ = a.numbers.now} c.if-words-count.false (seen_good f) there
