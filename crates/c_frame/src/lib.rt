@@ -8,7 +8,7 @@ ghost use Rattle.frame.specs.Lent.{old, new, before, after};
 ghost use Rattle.frame_draw.specs.Draw.{draw_of, drawn_means, draw_answer, draw_frame};
 ghost use Rattle.words_read.specs.Read.{read_answer};
 ghost use Rattle.words_run.specs.Run.{run_means, run_answer};
-ghost use Rattle.c_frame.specs.Engines.{engine_of};
+ghost use Rattle.c_frame.specs.Engines.{engine_of, format_from};
 ghost use Rattle.c_frame.specs.Frames.{draw_from, read_from, drawn_answer, word_answer, ran_answer};
 
 use c_answers::Answer;
@@ -128,6 +128,18 @@ pub fn draw(
     DrawnAnswer::from(answer)
 }
 
+// How C asks for words to be written.
+fn format_from(fmt: u8, siz: u8, rgb_dither: u8, big_endian: bool) -> Format
+    ensures { result ≡ format_from fmt siz rgb_dither big_endian }
+{
+    Format {
+        fmt,
+        siz,
+        rgb_dither,
+        encoding: byte_order(big_endian),
+    }
+}
+
 pub fn read_word(
     width: u32,
     height: u32,
@@ -142,12 +154,7 @@ pub fn read_word(
 ) -> Answer
     ensures { result ≡ word_answer (read_answer (read_from pixel fmt siz rgb_dither big_endian) width height (frame_of colors.now coverages.now marks.now)) }
 {
-    let format = Format {
-        fmt,
-        siz,
-        rgb_dither,
-        encoding: byte_order(big_endian),
-    };
+    let format = format_from(fmt, siz, rgb_dither, big_endian);
     let answer = words_read::read_word(width, height, colors, coverages, marks, pixel, format);
     Answer::from(answer)
 }
@@ -170,12 +177,7 @@ pub fn read_words(
     ensures words { new words ≡ (run_answer (read_from first fmt siz rgb_dither big_endian) width height (frame_of colors.now coverages.now marks.now) (old words) (old numbers)).words }
     ensures numbers { new numbers ≡ (run_answer (read_from first fmt siz rgb_dither big_endian) width height (frame_of colors.now coverages.now marks.now) (old words) (old numbers)).numbers }
 {
-    let format = Format {
-        fmt,
-        siz,
-        rgb_dither,
-        encoding: byte_order(big_endian),
-    };
+    let format = format_from(fmt, siz, rgb_dither, big_endian);
     let answer = words_run::read_words(
         width, height, colors, coverages, marks, first, format, words, numbers,
     );

@@ -63,7 +63,7 @@ fn fill_pixel(colors: &mut [u8], coverages: &mut [u8], marks: &mut [u8], full: F
     );
 }
 
-// A run of pixels from the first up to the last, each with all its samples. The slices themselves and no target: through a &mut in the loop nothing is hoisted,
+// A run of pixels from first up to end, each with all its samples. The slices themselves and no target: through a &mut in the loop nothing is hoisted,
 // and a run takes more than three times as long. So `Long` and `Fit` stand in these contracts, and in no type.
 pub fn fill_run(
     colors: &mut [u8],
@@ -71,14 +71,14 @@ pub fn fill_run(
     marks: &mut [u8],
     paint: &Paint,
     first: usize,
-    last: usize,
+    end: usize,
 )
-    requires run { (first ≤ last) × (last ≤ length marks.old) × (paint.now.even ≡ true) }
+    requires run { (first ≤ end) × (end ≤ length marks.old) × (paint.now.even ≡ true) }
     requires fit { Fit (length marks.old) (lent colors coverages marks) }
-    ensures { Drew paint.now.mode paint.now.combiner (length (old marks)) (from (full_pixel paint.now.color) first last) (before colors coverages marks) (after colors coverages marks) (last - first) }
+    ensures { Drew paint.now.mode paint.now.combiner (length (old marks)) (from (full_pixel paint.now.color) first end) (before colors coverages marks) (after colors coverages marks) (end - first) }
 {
     let full = paint.full;
-    for pixel in first..last {
+    for pixel in first..end {
         fill_pixel(colors, coverages, marks, full, pixel);
     }
 }

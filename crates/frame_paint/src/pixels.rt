@@ -8,7 +8,7 @@ use crate::prepare::Paint;
 use blender::Source;
 use raster_pixel::Fragment;
 
-// What the rules look at of it.
+// What the rules look at of an emitted pixel.
 #[tactic(auto, using(num_bits::proofs::Masks::ones_range))]
 pub fn fragment_source(fragment: Fragment) -> Source
     requires { 0 < fragment.mask }

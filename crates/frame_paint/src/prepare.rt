@@ -17,6 +17,7 @@ use frame_pixel::full::Full;
 use frame_pixel::{Coloring, Colors};
 use state::{RenderMode, Rgba};
 
+// What does not turn on the pixel, of one draw.
 #[derive(Clone, Copy)]
 pub struct Paint {
     pub mode: RenderMode,
@@ -32,9 +33,9 @@ pub struct Paint {
     pub ghost colored: { color_of combiner full_shade ≡ color_value color },
     pub ghost owned: { Own mode combiner own },
     pub ghost filled: { FullOf mode combiner color full },
-    // What full pixels of the colour need is enough for them.
+    // `even` says whether what full pixels of the colour need is enough for them.
     pub ghost enough: { even ≡ (full.layered || (steady_of mode || full.sure)) },
-    // Every pixel of a triangle has the colour.
+    // Where `flat`, every pixel of a triangle has the colour.
     pub ghost flattened: { flat ≡ true → (even ≡ true) × ((s : Rgba) → color_of combiner s ≡ color_value color) },
 }
 

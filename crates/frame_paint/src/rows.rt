@@ -14,7 +14,7 @@ use raster_pixel::Fragment;
 use raster_pixel::row::Row;
 use raster_vertex::row::ShadeRow;
 
-// What pixel x emits that has these samples: in the colour of its shade; or, without shades, in the paint's own, with 1.0 for the shade's alpha.
+// What pixel x emits, of which these are the samples: in the colour of its shade; or, without shades, in the paint's own, with 1.0 for the shade's alpha.
 #[tactic(auto, unfolding(crate::specs::Row::fragment_of))]
 fn fragment(paint: &Paint, shades: Option<ShadeRow>, mask: u8, x: u32) -> Option<Fragment>
     requires { x < 1024 }

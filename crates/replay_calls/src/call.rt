@@ -23,7 +23,7 @@ fn held(line: &mut Line<'_>, number: u32, values: &[u64]) -> Option<bool> {
     Some(same)
 }
 
-// Here and below the fields of a frame are spelled out: the C interface takes plain values.
+// Here and below the fields of a frame are spelled out: the C interface takes a frame as plain slices.
 fn draw(line: &mut Line<'_>, engine: u8, frame: &mut Frame) -> Option<bool> {
     let draw: Draw = line.read()?;
     let answer = c_frame::draw(
