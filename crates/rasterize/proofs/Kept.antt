@@ -23,13 +23,15 @@ use Rattle.raster_edges.specs.Sample.{mask_of}
 use Rattle.raster_pixel.specs.Emitted.{Emit, shown, emits}
 use Rattle.raster_pixel.proofs.Kept.{kept_all}
 use Rattle.raster_pixel.proofs.Parts.{from_none, from_empty, parts_bound}
+use Rattle.frame.specs.Frame.{Frame}
 use Rattle.frame_paint.specs.declared.prepare.Paint.{Paint}
 use Rattle.frame_paint.specs.declared.Target.{Target}
-use Rattle.frame_paint.specs.Pixel.{DrewOn}
+use Rattle.frame_paint.specs.Pixel.{Drew, DrewOn}
 use Rattle.frame_paint.specs.Row.{painted, fragment_of, row_at}
 use Rattle.frame_paint.proofs.Drawing.{DrawingOn, drawing_more, drew_as, drew_nothing}
 use Rattle.frame_paint.proofs.Joins.{row_most}
 use Rattle.rasterize.specs.Shape.{Shading, shades_on, shape_pixel, shape_row}
+use Rattle.rasterize.proofs.Same.{same_as, drew_same}
 
 -- ---- a pixel
 unseen : (paint : Paint) (shades : Option ShadeRow) (e : Edges) (w y x : ℕ) → mask_of e x ≡ 0 → row_at paint shades e w y x ≡ []
@@ -45,11 +47,18 @@ module _ (paint : Paint) (shading : Shading) (t : Tri) (w l r y : ℕ) {e : Edge
   pub row_none : k.end ≤ k.start → shape_row paint shading t w l r y ≡ []
   row_none h = sym (row_kept refl) ∙ from_none (row_at paint (shades_on shading y) e w y) k.start k.end h
 
+  -- in a draw of a frame, and of the frame that a draw is carried out on
   pub row_drawn :
+      {row : Option ShadeRow} {m n : ℕ} {f g : Frame} → row ≡ shades_on shading y
+      → Drew paint.mode paint.combiner m (from (row_at paint row e w y) k.start k.end) f g n
+      → Drew paint.mode paint.combiner m (shape_row paint shading t w l r y) f g n
+  row_drawn er = drew_same (same_as (row_kept er))
+
+  pub row_drawn_on :
       {row : Option ShadeRow} {n : ℕ} {before after : Target} → row ≡ shades_on shading y
       → DrewOn paint.mode paint.combiner (from (row_at paint row e w y) k.start k.end) before after n
       → DrewOn paint.mode paint.combiner (shape_row paint shading t w l r y) before after n
-  row_drawn er = drew_as (row_kept er)
+  row_drawn_on er = drew_as (row_kept er)
 
 -- ---- rows
 module _ (paint : Paint) (shading : Shading) (t : Tri) (w l r : ℕ) where

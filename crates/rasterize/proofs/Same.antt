@@ -9,10 +9,11 @@ use Rattle.state.specs.declared.RenderMode.{RenderMode}
 use Rattle.combiner.specs.declared.Combiner.{Combiner}
 use Rattle.raster_pixel.specs.Parts.{parts, from}
 use Rattle.raster_pixel.specs.Emitted.{Emit}
+use Rattle.frame.specs.Frame.{Frame}
 use Rattle.frame_paint.specs.Steps.{step_frame}
 use Rattle.frame_paint.specs.declared.Target.{Target}
 use Rattle.frame_paint.specs.Target.{seen}
-use Rattle.frame_paint.specs.Pixel.{DrewOn}
+use Rattle.frame_paint.specs.Pixel.{Drew, DrewOn}
 
 pub record Same {S E : Type 0} (step : S → E → S) (ds es : List E) : Type 0 where
   pub state : (s : S) → foldl step s ds ≡ foldl step s es
@@ -37,7 +38,11 @@ module _ {S E : Type 0} {step : S → E → S} where
   pub same_parts : {c d : ℕ → List E} (a b : ℕ) → ((i : ℕ) → a ≤ i → i < b → Same step (c i) (d i)) → Same step (from c a b) (from d a b)
   same_parts a b h = same_from (b - a) a (λ i p q. h i p (omega arith))
 
-pub drew_same :
-    {mode : RenderMode} {k : Combiner} {ds es : List Emit} {before after : Target} {n : ℕ}
-    → Same (step_frame mode k) ds es → DrewOn mode k ds before after n → DrewOn mode k es before after n
-drew_same {before = before} s d = record { ran = record { state = d.ran.state ∙ s.state (seen before); count = d.ran.count ∙ s.count }; same = d.same }
+-- in a draw of a frame, and of the frame that a draw is carried out on
+module _ {mode : RenderMode} {k : Combiner} {ds es : List Emit} where
+  pub drew_same : {m n : ℕ} {f g : Frame} → Same (step_frame mode k) ds es → Drew mode k m ds f g n → Drew mode k m es f g n
+  drew_same {f = f} s d = record { ran = record { state = d.ran.state ∙ s.state f; count = d.ran.count ∙ s.count }; fit = d.fit }
+
+  pub drew_same_on : {before after : Target} {n : ℕ} → Same (step_frame mode k) ds es → DrewOn mode k ds before after n → DrewOn mode k es before after n
+  drew_same_on {before = before} s d =
+      record { ran = record { state = d.ran.state ∙ s.state (seen before); count = d.ran.count ∙ s.count }; same = d.same }

@@ -4,7 +4,7 @@ use mathlib.Core.Path.{◌≡◌, refl, sym, ap, ◌∙◌}
 use mathlib.Core.Bool.{Bool, true, false, cond}
 use mathlib.Core.List.{List, []}
 use Rattle.std.specs.Prelude.{Option, None, Some}
-use Prim.Native.Nat.{ℕ, ◌+◌, ◌*◌, ◌<◌}
+use Prim.Native.Nat.{ℕ, ◌+◌, ◌*◌, ◌≤◌, ◌<◌}
 use native.Mathlib.Omega.{arith}
 use Rattle.num_float.specs.Color.{f1}
 use Rattle.combiner.specs.Combine.{color_of, full_shade}
@@ -24,6 +24,7 @@ use Rattle.raster_vertex.proofs.Rows.{row_shade}
 use Rattle.raster_rectangle.specs.declared.Sides.{Sides}
 use Rattle.raster_rectangle.specs.Outline.{Outlines}
 use Rattle.raster_pixel.specs.declared.Area.{Area}
+use Rattle.raster_pixel.specs.declared.Scissor.{Scissor}
 use Rattle.raster_pixel.specs.declared.view.View.{View}
 use Rattle.raster_pixel.specs.Area.{area_of}
 use Rattle.raster_pixel.specs.Emitted.{Emit, shown, covered, emits, inside, triangle_fragment, three_emits, rectangle_fragment, rectangle_emits}
@@ -31,15 +32,16 @@ use Rattle.raster_pixel.specs.Parts.{from}
 use Rattle.raster_pixel.specs.SetUp.{set_up_by, set_up_emits}
 use Rattle.raster_pixel.proofs.Inside.{inside_area}
 use Rattle.raster_pixel.proofs.SetUp.{set_up_emits-by}
+use Rattle.frame.specs.Frame.{Frame}
 use Rattle.frame_paint.specs.declared.prepare.Paint.{Paint}
 use Rattle.frame_paint.specs.Steps.{step_frame}
 use Rattle.frame_paint.proofs.Paints.{any_shade}
 use Rattle.frame_paint.specs.declared.Target.{Target}
-use Rattle.frame_paint.specs.Pixel.{DrewOn}
+use Rattle.frame_paint.specs.Pixel.{Drew, DrewOn}
 use Rattle.frame_paint.specs.Row.{painted, fragment_of, row_at}
 use Rattle.frame_paint.proofs.Drawing.{drew_as}
 use Rattle.rasterize.specs.Shape.{Shading, shading_of, shape_pixel, shape_row, shape_emits}
-use Rattle.rasterize.proofs.Same.{Same, same_as, same_parts, drew_same}
+use Rattle.rasterize.proofs.Same.{Same, same_as, same_parts, drew_same, drew_same_on}
 use Rattle.rasterize.proofs.Kept.{rows_kept}
 
 -- ---- a triangle's pixel
@@ -89,26 +91,51 @@ rectangle_pixel paint sides t w y x o hy hx =
     let m = o.same x y hx hy in
     λ i. emits (cond (shown paint.mode.antialias (m i)) (covered (m i) (sym paint.colored i) f1) None) (y * w + x)
 
--- ---- all its pixels: the rows that are left out have no sample
+-- ---- all its pixels, of every frame: the rows that are left out have no sample
+module _ (paint : Paint) (shading : Shading) (t : Tri) (s : Scissor) (w h : ℕ) where
+  rows_same :
+      {ar : Area} {rows : Range} → ar ≡ area_of s w h → Kept (no_row t) ar.top ar.bottom rows
+      → from (shape_row paint shading t w ar.left ar.right) rows.start rows.end ≡ inside s w h (shape_pixel paint shading t w)
+  rows_same {ar} ea kept =
+      sym (rows_kept paint shading t w ar.left ar.right kept)
+      ∙ (λ i. from (shape_row paint shading t w (ea i).left (ea i).right) (ea i).top (ea i).bottom)
+      ∙ sym (inside_area s w h (shape_pixel paint shading t w))
+
+  -- and other pixels that do the same
+  shape_same :
+      w ≤ 1024 → h ≤ 1024 → (pixel : ℕ → ℕ → List Emit)
+      → ((y x : ℕ) → y < 1024 → x < 1024 → Same (step_frame paint.mode paint.combiner) (shape_pixel paint shading t w y x) (pixel y x))
+      → Same (step_frame paint.mode paint.combiner) (inside s w h (shape_pixel paint shading t w)) (inside s w h pixel)
+  shape_same wide high pixel same = same_parts _ _ (λ y p q. same_parts _ _ (λ x j l. same y x (omega arith) (omega arith)))
+
+  module _ {m n : ℕ} {f g : Frame} where
+    pub rows_drawn :
+        {ar : Area} {rows : Range} → ar ≡ area_of s w h → Kept (no_row t) ar.top ar.bottom rows
+        → Drew paint.mode paint.combiner m (from (shape_row paint shading t w ar.left ar.right) rows.start rows.end) f g n
+        → Drew paint.mode paint.combiner m (inside s w h (shape_pixel paint shading t w)) f g n
+    rows_drawn ea kept = drew_same (same_as (rows_same ea kept))
+
+    pub shape_drawn :
+        w ≤ 1024 → h ≤ 1024 → (pixel : ℕ → ℕ → List Emit)
+        → ((y x : ℕ) → y < 1024 → x < 1024 → Same (step_frame paint.mode paint.combiner) (shape_pixel paint shading t w y x) (pixel y x))
+        → Drew paint.mode paint.combiner m (inside s w h (shape_pixel paint shading t w)) f g n
+        → Drew paint.mode paint.combiner m (inside s w h pixel) f g n
+    shape_drawn wide high pixel same = drew_same (shape_same wide high pixel same)
+
+-- of the frame that a draw is carried out on
 module _ (paint : Paint) (shading : Shading) (t : Tri) (v : View) {n : ℕ} {before after : Target} where
-  pub rows_drawn :
+  pub rows_drawn_on :
       {ar : Area} {rows : Range} → ar ≡ area_of v.scissor v.width v.height → Kept (no_row t) ar.top ar.bottom rows
       → DrewOn paint.mode paint.combiner (from (shape_row paint shading t v.width ar.left ar.right) rows.start rows.end) before after n
       → DrewOn paint.mode paint.combiner (shape_emits paint shading t v) before after n
-  rows_drawn {ar} ea kept =
-      drew_as
-      (sym (rows_kept paint shading t v.width ar.left ar.right kept)
-      ∙ (λ i. from (shape_row paint shading t v.width (ea i).left (ea i).right) (ea i).top (ea i).bottom)
-      ∙ sym (inside_area v.scissor v.width v.height (shape_pixel paint shading t v.width)))
+  rows_drawn_on ea kept = drew_as (rows_same paint shading t v.scissor v.width v.height ea kept)
 
-  -- and other pixels that do the same
-  pub shape_drawn :
+  pub shape_drawn_on :
       (pixel : ℕ → ℕ → List Emit)
       → ((y x : ℕ) → y < 1024 → x < 1024 → Same (step_frame paint.mode paint.combiner) (shape_pixel paint shading t v.width y x) (pixel y x))
       → DrewOn paint.mode paint.combiner (shape_emits paint shading t v) before after n
       → DrewOn paint.mode paint.combiner (inside v.scissor v.width v.height pixel) before after n
-  shape_drawn pixel same =
-      drew_same (same_parts _ _ (λ y p q. same_parts _ _ (λ x j l. same y x (omega (arith, v.sized.height_small)) (omega (arith, v.sized.width_small)))))
+  shape_drawn_on pixel same = drew_same_on (shape_same paint shading t v.scissor v.width v.height v.sized.width_small v.sized.height_small pixel same)
 
 -- ---- a triangle of a list
 module _ (paint : Paint) (cull : Bool) (v : View) (three : Option Triangle) where
@@ -122,15 +149,23 @@ module _ (paint : Paint) (cull : Bool) (v : View) (three : Option Triangle) wher
       → DrewOn paint.mode paint.combiner (three_emits paint.mode paint.combiner cull v.scissor v.width v.height three) before after n
   triangle_drawn {t} {o} e es d =
       drew_as (emitted e)
-      (shape_drawn paint (shading_of paint.flat o) t v _ (λ y x hy hx. triangle_pixel paint o t v.width y x) (drew_as (λ i. shape_emits paint (es i) t v) d))
+      (shape_drawn_on paint (shading_of paint.flat o) t v _ (λ y x hy hx. triangle_pixel paint o t v.width y x) (drew_as (λ i. shape_emits paint (es i) t v) d))
 
   pub triangle_skipped : None ≡ set_up_by cull three → three_emits paint.mode paint.combiner cull v.scissor v.width v.height three ≡ []
   triangle_skipped e = sym (emitted e)
 
--- ---- a rectangle
-pub rectangle_drawn :
-    (paint : Paint) (v : View) (sides : Sides) {t : Tri} {n : ℕ} {before after : Target} → Outlines sides t
-    → DrewOn paint.mode paint.combiner (shape_emits paint None t v) before after n
-    → DrewOn paint.mode paint.combiner (rectangle_emits paint.mode paint.combiner v.scissor v.width v.height sides) before after n
-unfolding rectangle_emits
-rectangle_drawn paint v sides {t} o = shape_drawn paint None t v _ (λ y x hy hx. same_as (rectangle_pixel paint sides t v.width y x o hy hx))
+-- ---- a rectangle, of every frame and of the frame that a draw is carried out on
+module _ (paint : Paint) (sides : Sides) {t : Tri} (o : Outlines sides t) {n : ℕ} where
+  pub rectangle_drawn :
+      (s : Scissor) {w h m : ℕ} {f g : Frame} → w ≤ 1024 → h ≤ 1024
+      → Drew paint.mode paint.combiner m (inside s w h (shape_pixel paint None t w)) f g n
+      → Drew paint.mode paint.combiner m (rectangle_emits paint.mode paint.combiner s w h sides) f g n
+  unfolding rectangle_emits
+  rectangle_drawn s {w} {h} wide high = shape_drawn paint None t s w h wide high _ (λ y x hy hx. same_as (rectangle_pixel paint sides t w y x o hy hx))
+
+  pub rectangle_drawn_on :
+      (v : View) {before after : Target}
+      → DrewOn paint.mode paint.combiner (shape_emits paint None t v) before after n
+      → DrewOn paint.mode paint.combiner (rectangle_emits paint.mode paint.combiner v.scissor v.width v.height sides) before after n
+  unfolding rectangle_emits
+  rectangle_drawn_on v = shape_drawn_on paint None t v _ (λ y x hy hx. same_as (rectangle_pixel paint sides t v.width y x o hy hx))

@@ -1,8 +1,8 @@
 use Rattle.std.proofs.Common.{ap, arith}
 use native.Mathlib.Nat.{le_trans}
 use Rattle.frame_paint.proofs.Drawing.{drawing_start, drawing_fits, drawing_more, drawing_done}
-use Rattle.rasterize.proofs.Kept.{row_none, row_drawn, rows_most, row_skipped}
-use Rattle.rasterize.proofs.Shapes.{rows_drawn}
+use Rattle.rasterize.proofs.Kept.{row_none, row_drawn_on, rows_most, row_skipped}
+use Rattle.rasterize.proofs.Shapes.{rows_drawn_on}
 use Rattle.rasterize.proofs.rows.draw_shape.Goals as goal
 use Rattle.rasterize.proofs.rows.draw_shape.Goals.{then-kept, else-kept}
 
@@ -21,7 +21,7 @@ overflow_add-n c =
     let a = c.args in
     let area = c.area-area.result in
     let v = c.loop-y.target.view in
-    let row = row_drawn a.paint.now a.shading a.shape v.width area.left area.right _ c.edges_at-edges.ensures c.bounds-kept.ensures.kept c.shades_on-shades.ensures c.draw_row-n.ensures in
+    let row = row_drawn_on a.paint.now a.shading a.shape v.width area.left area.right _ c.edges_at-edges.ensures c.bounds-kept.ensures.kept c.shades_on-shades.ensures c.draw_row-n.ensures in
     let b = c.area-area.ensures.bounded in
     let s = a.target.now.view.sized in
     omega (
@@ -45,10 +45,10 @@ loop-y-preserved c =
       | then-kept t ↦
           rw (t.target-is, t.n-is)
           (drawing_more _ _ _ _ _ _ c.loop-y-test.true c.loop-y.invariant
-          (row_drawn a.paint.now a.shading a.shape w l r _ e k t.shades_on-shades.ensures t.draw_row-n.ensures))
+          (row_drawn_on a.paint.now a.shading a.shape w l r _ e k t.shades_on-shades.ensures t.draw_row-n.ensures))
       | else-kept t ↦ rw (t.target-is, t.n-is) (row_skipped _ _ _ _ _ _ c.loop-y-test.true c.loop-y.invariant (row_none a.paint.now a.shading a.shape w l r _ e k t.if-kept.false))
     ]
 
 pub returns : goal.returns
 returns c = let a = c.args in
-    rows_drawn a.paint.now a.shading a.shape a.target.now.view c.area-area.ensures.value c.rows-rows.ensures (drawing_done _ _ _ _ _ _ c.loop-y-test.false c.loop-y.invariant)
+    rows_drawn_on a.paint.now a.shading a.shape a.target.now.view c.area-area.ensures.value c.rows-rows.ensures (drawing_done _ _ _ _ _ _ c.loop-y-test.false c.loop-y.invariant)
