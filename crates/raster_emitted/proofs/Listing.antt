@@ -28,7 +28,7 @@ module _ {v : Window} where
       }
 
   module _ {es fs : List Masked} {n m k : ℕ} {s t u : Places} (d : ListedPart v es n m s t) (e : ListedPart v fs m k t u) where
-    part_then : ListedPart v (es ++ fs) n k s u
+    pub part_then : ListedPart v (es ++ fs) n k s u
     part_then =
         record {
           within = d.within;
@@ -53,7 +53,7 @@ module _ {v : Window} where
             ∙ sym (get_or-append-add es fs (v.first + i - m) no_pixel)
             ∙ ap (λ (j : ℕ). get_or (es ++ fs) j no_pixel) past
 
-  part_stop : (fs : List Masked) {es : List Masked} {n m : ℕ} {s t : Places} → m ≡ v.limit → ListedPart v es n m s t → ListedPart v (es ++ fs) n m s t
+  pub part_stop : (fs : List Masked) {es : List Masked} {n m : ℕ} {s t : Places} → m ≡ v.limit → ListedPart v es n m s t → ListedPart v (es ++ fs) n m s t
   part_stop fs {es} {n} h d =
       record {
         within = d.within;
