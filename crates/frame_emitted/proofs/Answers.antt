@@ -21,6 +21,8 @@ use Rattle.raster_pixel.specs.declared.shapes.Shapes.{Shapes}
 use Rattle.raster_pixel.specs.Draw.{emitted_as}
 use Rattle.raster_pixel.proofs.Counts.{geometry_most}
 use Rattle.raster_pixel.proofs.Parts.{each_length, each_at}
+use Rattle.raster_emitted.specs.declared.slots.Slots.{Slots}
+use Rattle.raster_emitted.specs.Listed.{ListedIn, Cleared}
 use Rattle.raster_emitted.specs.Masked.{Masked, masked_of, no_pixel}
 use Rattle.raster_emitted.proofs.Colorless.{geometry-masks}
 use Rattle.frame.specs.Checks.{or_else}
@@ -34,6 +36,7 @@ use Rattle.frame_emitted.specs.Run.{pixels_means, NumberedPixels, singles, pixel
 use Rattle.raster_emitted.specs.Shapes.{masks_as}
 use Rattle.frame_emitted.specs.Places.{largest_count, FoundAt, ListedAll}
 use Rattle.frame_emitted.proofs.Ends.{pixel_there}
+use Rattle.frame_emitted.proofs.Slots.{run_listed}
 
 -- ---- what an accepted draw emits
 module _ (v : View) (s : Shapes) where
@@ -131,11 +134,11 @@ module _ (d : DrawArgs) (w h : ℕ) (f : Frame) where
       slot_at : (i : ℕ) → i < length ms → record { number = 0; pixel = get_or ps' i 0; mask = get_or ms' i 0 } ≡ emitted_answer d w h f (first + i)
       slot_at i p = ap pixel_of (l.slots i p) ∙ answer_at_lem (first + i)
 
-      pub run_accepted :
+      run_means :
           (ps : List ℕ) {m : ℕ} → length ps ≡ length ms → m ≡ min (length ms') (n - first)
           → (pixels_means (Ok (record { listed = m; emitted = n })) ps' ms' ≡ emitted_run d w h f first ps ms) × NumberedPixels (Ok (record { listed = m; emitted = n }))
       unfolding emitted_run draw_answer
-      run_accepted ps {m} equal em =
+      run_means ps {m} equal em =
           let count : n ≡ length (emitted_as v s) = l.count ∙ masks_count v s in
           let slots : m ≡ min (length ms) (length (emitted_as v s) - first) = omega (arith, em, l.masks_long, count) in
           let pixels = column (λ (a : PixelAnswer). a.pixel) ps' l.pixels_long (λ i p. ap (λ (a : PixelAnswer). a.pixel) (slot_at i p)) refl in
@@ -145,3 +148,13 @@ module _ (d : DrawArgs) (w h : ℕ) (f : Frame) where
                 ∙ (λ i. pixels_by (or_else (answer_by (accepted.plan i)).number (cond (eqb (length ps) (length ms)) 0 20)) first (answer_by (accepted.plan i)).pixels (singles d w h f first (length ms)) ps ms),
             tt,
           )
+
+    -- where they were counted from none on to the largest count
+    pub run_accepted :
+        (ps : List ℕ) {ps' ms' : List ℕ} {before after cleared : Slots} {m : ℕ} → before.count ≡ 0 → before.limit ≡ largest_count
+        → length ps ≡ length before.masks.now → ListedIn (masks_as v s) before after → Cleared after cleared
+        → ps' ≡ cleared.pixels.now → ms' ≡ cleared.masks.now → m ≡ min (length cleared.masks.now) (cleared.count - cleared.first)
+        → (pixels_means (Ok (record { listed = m; emitted = cleared.count })) ps' ms' ≡ emitted_run d w h f before.first ps before.masks.now)
+        × NumberedPixels (Ok (record { listed = m; emitted = cleared.count }))
+    run_accepted ps none limit equal listed cleared ep em reached =
+        run_means (run_listed none limit (masks_few v s) listed cleared ep em) ps equal (omega (arith, reached, ap length em, cleared.first, listed.first))

@@ -6,8 +6,9 @@ use native.Mathlib.Decide.{dec_lt}
 use native.Mathlib.Omega.{arith}
 use lib.ListN.{length, get_or, get_or-eq_default}
 use Rattle.raster_emitted.specs.Masked.{Masked, no_pixel}
-use Rattle.raster_emitted.specs.Filled.{Places, places_of, slot_at, Filled}
-use Rattle.raster_emitted.specs.Listed.{Window, ListedPart}
+use Rattle.raster_emitted.specs.declared.slots.Slots.{Slots}
+use Rattle.raster_emitted.specs.Filled.{Places, places_of, slot_at}
+use Rattle.raster_emitted.specs.Listed.{Window, window_of, held, ListedPart, ListedIn, Cleared}
 use Rattle.frame_emitted.specs.Emitted.{pixel_of}
 use Rattle.frame_emitted.specs.Places.{largest_count, ListedAll}
 
@@ -25,29 +26,31 @@ module _ {es : List Masked} (v : Window) {n : ℕ} {s t : Places} (limit : v.lim
   pub past : n ≤ v.first → pixel_of no_pixel ≡ pixel_of (get_or es v.first no_pixel)
   past h = ap pixel_of (sym (get_or-eq_default es no_pixel (omega (arith, d.count))))
 
--- ---- a run: xs and cs are the two slices once the pixels are listed
+-- ---- a run: ps and ms are the two slices at the end
 pub run_listed :
-    {es : List Masked} (v : Window) {n m : ℕ} {s t : Places} {xs cs ps ms : List ℕ} → length s.pixels ≡ length s.masks → v.limit ≡ largest_count → length es ≤ largest_count
-    → ListedPart v es 0 n s t → xs ≡ t.pixels → cs ≡ t.masks → m ≡ min (length cs) (n - v.first)
-    → Filled (λ (i : ℕ). 0) 0 m (length cs) (places_of xs cs) (places_of ps ms) → ListedAll es v.first n s.masks ps ms
-run_listed {es} v {n} {m} {s} {t} {xs} {cs} {ps} {ms} equal limit few d ex ec em c =
+    {es : List Masked} {before after cleared : Slots} {ps ms : List ℕ} → before.count ≡ 0 → before.limit ≡ largest_count → length es ≤ largest_count
+    → ListedIn es before after → Cleared after cleared → ps ≡ cleared.pixels.now → ms ≡ cleared.masks.now
+    → ListedAll es before.first cleared.count before.masks.now ps ms
+run_listed {es} {before} {after} {cleared} {ps} {ms} none limit few d c ep em =
     record {
-      count = omega (arith, d.count);
-      pixels_long = c.pixels ∙ ap length ex ∙ d.pixels ∙ equal;
-      masks_long = c.masks ∙ masks_long;
-      slots = λ i l. go i l (dec_lt i m);
+      count = omega (arith, part.count, none, limit, c.count);
+      pixels_long = ap length ep ∙ c.zeros.pixels ∙ part.pixels ∙ before.matched;
+      masks_long = ap length em ∙ c.zeros.masks ∙ part.masks;
+      slots = λ i l. (λ j. slot_at (places_of (ep j) (em j)) i) ∙ go i l (dec_lt i reached);
     }
   where
-    masks_long : length cs ≡ length s.masks
-    masks_long = ap length ec ∙ d.masks
+    part : ListedPart (window_of before) es before.count after.count (held before) (held after)
+    part = d.part
 
-    go : (i : ℕ) → i < length s.masks → Dec (i < m) → slot_at (places_of ps ms) i ≡ get_or es (v.first + i) no_pixel
+    reached : ℕ
+    reached = min (length after.masks.now) (after.count - after.first)
+
+    go : (i : ℕ) → i < length before.masks.now → Dec (i < reached) → slot_at (held cleared) i ≡ get_or es (before.first + i) no_pixel
     go i l (yes h) =
-        let e : v.first + i - 0 ≡ v.first + i = omega arith in
-        c.below i h
-        ∙ (λ j. slot_at (places_of (ex j) (ec j)) i)
-        ∙ d.there i l (omega arith) (omega arith)
+        let e : before.first + i - before.count ≡ before.first + i = omega (arith, none) in
+        c.zeros.below i h
+        ∙ part.there i l (omega (arith, none)) (omega (arith, d.first, h))
         ∙ ap (λ (j : ℕ). get_or es j no_pixel) e
     go i l (no h) =
-        c.written i (omega arith) (omega (arith, masks_long))
-        ∙ sym (get_or-eq_default es no_pixel (omega (arith, d.count, masks_long)))
+        c.zeros.written i (omega arith) (omega (arith, part.masks))
+        ∙ sym (get_or-eq_default es no_pixel (omega (arith, part.count, part.masks, none, limit, d.first)))

@@ -11,11 +11,10 @@ ghost use Rattle.frame.specs.Lent.{old, new};
 ghost use Rattle.frame_draw.specs.Draw.{draw_of};
 ghost use Rattle.frame_emitted.specs.Emitted.{pixel_means, pixel_of, emitted_answer, NumberedPixel};
 ghost use Rattle.frame_emitted.specs.Run.{pixels_means, emitted_run, NumberedPixels};
-ghost use Rattle.frame_emitted.specs.Places.{FoundAt, ListedAll};
+ghost use Rattle.frame_emitted.specs.Places.{FoundAt};
 
 use frame_draw::{DrawCall, Engine};
 use raster_emitted::Slots;
-use raster_emitted::slots::{clear, slots_before};
 use raster_pixel::{Shapes, View};
 use refused::Refusal;
 
@@ -34,17 +33,17 @@ pub struct Listed {
 }
 
 // The pixels of an accepted draw: they are counted up to the slots' limit, and those that are asked for go to their slots.
-fn list_by(engine: Engine, slots: &mut Slots, view: View, shapes: &Shapes)
-    ensures { ListedIn (masks_as view shapes.now) slots.old slots.new }
+fn list_by(engine: Engine, slots: &mut Slots, shapes: &Shapes)
+    ensures { ListedIn (masks_as slots.old.view shapes.now) slots.old slots.new }
 {
     // The host chooses at run time, and two calls are the plainest choice of two.
     match engine {
-        Engine::Fast => raster_emitted::list_pixels(slots, view, shapes),
-        Engine::Slow => rasterize_slow::list_pixels(slots, view, shapes),
+        Engine::Fast => raster_emitted::list_pixels(slots, shapes),
+        Engine::Slow => rasterize_slow::list_pixels(slots, shapes),
     }
 }
 
-// Pixel k of an accepted draw, in a slot of its own, if the draw emits as many.
+// Pixel k of an accepted draw, in a slot of its own, if the draw emits as many. Slots are slices, so that the slot is two arrays of one element.
 fn pixel_at(engine: Engine, k: u64, view: View, shapes: &Shapes) -> Option<Emitted>
     ensures result_value { pixel_means (Ok result) ≡ pixel_of (slice_index_or (masks_as view shapes.now) k no_pixel) }
     ensures found_at { FoundAt (masks_as view shapes.now) k result }
@@ -52,13 +51,14 @@ fn pixel_at(engine: Engine, k: u64, view: View, shapes: &Shapes) -> Option<Emitt
     let mut pixels = [0u32; 1];
     let mut masks = [0u8; 1];
     let mut slots = Slots {
+        view,
         first: k,
         limit: k.saturating_add(1),
         count: 0,
         pixels: &mut pixels,
         masks: &mut masks,
     };
-    list_by(engine, &mut slots, view, shapes);
+    list_by(engine, &mut slots, shapes);
     if slots.count <= k {
         return None;
     }
@@ -86,32 +86,6 @@ pub fn emitted_pixel(
     Ok(pixel_at(engine, k, view, &shapes))
 }
 
-// The pixels of an accepted draw, from `first` on, and zeros in the slots past the last: how many pixels it emits, which are fewer than the limit.
-fn list_from(
-    engine: Engine,
-    first: u64,
-    pixels: &mut [u32],
-    masks: &mut [u8],
-    view: View,
-    shapes: &Shapes,
-) -> u64
-    requires equal { length pixels.old ≡ length masks.old }
-    ensures { ListedAll (masks_as view shapes.now) first result (old masks) (new pixels) (new masks) }
-{
-    let mut slots = Slots {
-        first,
-        limit: u64::MAX,
-        count: 0,
-        pixels,
-        masks,
-    };
-    list_by(engine, &mut slots, view, shapes);
-    let count = slots.count;
-    let listed = slots_before(first, count, masks.len());
-    clear(pixels, masks, listed);
-    count
-}
-
 // The pixels that a draw emits, from the first-th on, as many as there are slots: slot i has what the single call answers for first + i. Its own refusal, 20, is
 // for slices that have not one length. Turned away, it writes nothing.
 pub fn emitted_pixels(
@@ -134,10 +108,19 @@ pub fn emitted_pixels(
     if pixels.len() != masks.len() {
         return Err(Refusal::Slots);
     }
-    let emitted = list_from(engine, first, pixels, masks, view, &shapes);
-    let listed = slots_before(first, emitted, masks.len());
+    let mut slots = Slots {
+        view,
+        first,
+        // all are counted: the largest count is more than a draw emits
+        limit: u64::MAX,
+        count: 0,
+        pixels,
+        masks,
+    };
+    list_by(engine, &mut slots, &shapes);
+    slots.clear();
     Ok(Listed {
-        listed: listed as u64,
-        emitted,
+        listed: slots.reached() as u64,
+        emitted: slots.count,
     })
 }

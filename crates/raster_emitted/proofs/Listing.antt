@@ -68,7 +68,7 @@ module _ {v : Window} where
 -- ---- of slots
 -- nothing
 pub listed_none : (s : Slots) → ListedIn [] s s
-listed_none s = record { first = refl; limit = refl; pixels = refl; masks = refl; part = part_none s.within }
+listed_none s = record { view = refl; first = refl; limit = refl; pixels = refl; masks = refl; part = part_none s.within }
 
 -- the same pixels, said otherwise
 pub listed_as : {ds es : List Masked} {s t : Slots} → ds ≡ es → ListedIn ds s t → ListedIn es s t
@@ -79,6 +79,7 @@ pub listed_then : {es fs : List Masked} {s t u : Slots} → ListedIn es s t → 
 listed_then {es} {fs} {s} {t} {u} d e =
     let same : window_of t ≡ window_of s = λ i. record { first = d.first i; limit = d.limit i } in
     record {
+      view = e.view ∙ d.view;
       first = e.first ∙ d.first;
       limit = e.limit ∙ d.limit;
       pixels = e.pixels ∙ d.pixels;
@@ -89,7 +90,7 @@ listed_then {es} {fs} {s} {t} {u} d e =
 -- past the window's end nothing is counted
 pub listed_stop : (fs : List Masked) {es : List Masked} {s t : Slots} → t.count ≡ t.limit → ListedIn es s t → ListedIn (es ++ fs) s t
 listed_stop fs h d =
-    record { first = d.first; limit = d.limit; pixels = d.pixels; masks = d.masks; part = part_stop fs (h ∙ d.limit) d.part }
+    record { view = d.view; first = d.first; limit = d.limit; pixels = d.pixels; masks = d.masks; part = part_stop fs (h ∙ d.limit) d.part }
 
 -- ---- a loop over the parts from a on: those up to i are listed
 module _ (c : ℕ → List Masked) (a : ℕ) where

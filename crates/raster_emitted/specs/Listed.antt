@@ -2,7 +2,7 @@
 use Rattle.std.specs.Prelude.{ℕ, ◌+◌, ◌-◌, ◌≤◌, ◌<◌, min, ◌≡◌, List, length, slice_index_or}
 use Rattle.raster_emitted.specs.declared.slots.Slots.{Slots}
 use Rattle.raster_emitted.specs.Masked.{Masked, no_pixel}
-use Rattle.raster_emitted.specs.Filled.{Places, places_of, slot_at}
+use Rattle.raster_emitted.specs.Filled.{Places, places_of, slot_at, Filled}
 
 -- which pixels are asked for: pixel first + i goes to slot i, and none is counted from limit on
 pub record Window : Type 0 where
@@ -25,10 +25,19 @@ pub record ListedPart (v : Window) (es : List Masked) (n m : ℕ) (before after 
   pub earlier : (i : ℕ) → i < length before.masks → v.first + i < n → slot_at after i ≡ slot_at before i
   pub later : (i : ℕ) → i < length before.masks → m ≤ v.first + i → slot_at after i ≡ slot_at before i
 
--- the same of slots that are lent: what they ask for stays, and so do the two slices
+-- the same of slots that are lent: the view and what they ask for stay, and so do the two slices
 pub record ListedIn (es : List Masked) (before after : Slots) : Type 0 where
+  pub view : after.view ≡ before.view
   pub first : after.first ≡ before.first
   pub limit : after.limit ≡ before.limit
   pub pixels : after.pixels.ghost_name ≡ before.pixels.ghost_name
   pub masks : after.masks.ghost_name ≡ before.masks.ghost_name
   pub part : ListedPart (window_of before) es before.count after.count (held before) (held after)
+
+-- zeros in the slots that no pixel has reached, and the rest as it was
+pub record Cleared (before after : Slots) : Type 0 where
+  pub first : after.first ≡ before.first
+  pub count : after.count ≡ before.count
+  pub pixels : after.pixels.ghost_name ≡ before.pixels.ghost_name
+  pub masks : after.masks.ghost_name ≡ before.masks.ghost_name
+  pub zeros : Filled (λ (i : ℕ). 0) 0 (min (length before.masks.now) (before.count - before.first)) (length before.masks.now) (held before) (held after)

@@ -9,41 +9,42 @@ ghost use Rattle.raster_emitted.specs.Listed.{ListedIn};
 
 use crate::rows::list_shape;
 pub use crate::slots::Slots;
-use raster_pixel::{Geometry, Shapes, View};
+use raster_pixel::{Geometry, Shapes};
 use raster_rectangle::Sides;
 
 pub mod rows; // the rows of a shape
 pub mod slots; // the lent slices
 
-fn list_triangles(slots: &mut Slots, view: View, shapes: &Shapes)
+fn list_triangles(slots: &mut Slots, shapes: &Shapes)
     requires { shapes.now.geometry ≡ Triangles }
     ensures { let s = shapes.now in
-        ListedIn (triangles_masks s.mode.antialias s.cull view.scissor view.width view.height s.lists.vertices.now s.lists.present.now s.lists.indices.now) slots.old slots.new }
+        let v = slots.old.view in
+        ListedIn (triangles_masks s.mode.antialias s.cull v.scissor v.width v.height s.lists.vertices.now s.lists.present.now s.lists.indices.now) slots.old slots.new }
 {
     for i in 0..shapes.lists.indices.len() / 3 {
         if slots.count == slots.limit {
             return;
         }
         if let Some((t, _)) = shapes.set_up(i) {
-            list_shape(slots, view, shapes.mode.antialias, t);
+            list_shape(slots, shapes.mode.antialias, t);
         }
     }
 }
 
 // A rectangle goes by its edges, as a triangle does. Cull is ignored.
-fn list_rectangle(slots: &mut Slots, view: View, antialias: bool, sides: Sides)
-    ensures { ListedIn (rectangle_masks antialias view.scissor view.width view.height sides) slots.old slots.new }
+fn list_rectangle(slots: &mut Slots, antialias: bool, sides: Sides)
+    ensures { let v = slots.old.view in ListedIn (rectangle_masks antialias v.scissor v.width v.height sides) slots.old slots.new }
 {
-    list_shape(slots, view, antialias, raster_rectangle::outline(sides));
+    list_shape(slots, antialias, raster_rectangle::outline(sides));
 }
 
 // The pixels of an accepted draw: they are counted, and those that are asked for are in their slots.
-pub fn list_pixels(slots: &mut Slots, view: View, shapes: &Shapes)
-    ensures { ListedIn (masks_as view shapes.now) slots.old slots.new }
+pub fn list_pixels(slots: &mut Slots, shapes: &Shapes)
+    ensures { ListedIn (masks_as slots.old.view shapes.now) slots.old slots.new }
 {
     match shapes.geometry {
         Geometry::Nothing => {}
-        Geometry::Rectangle(sides) => list_rectangle(slots, view, shapes.mode.antialias, sides),
-        Geometry::Triangles => list_triangles(slots, view, shapes),
+        Geometry::Rectangle(sides) => list_rectangle(slots, shapes.mode.antialias, sides),
+        Geometry::Triangles => list_triangles(slots, shapes),
     }
 }

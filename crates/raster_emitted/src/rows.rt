@@ -7,7 +7,6 @@ ghost use Rattle.raster_emitted.specs.Listed.{ListedIn};
 
 use crate::slots::Slots;
 use raster_edges::Tri;
-use raster_pixel::View;
 use raster_pixel::row::Row;
 
 // Row y of a frame of this width, as far as a shape goes.
@@ -48,10 +47,11 @@ fn list_row(slots: &mut Slots, line: &Line, start: u32, end: u32)
 }
 
 // The pixels of a shape inside the scissor: only between its outermost edges, outside which no sample lies.
-pub fn list_shape(slots: &mut Slots, view: View, antialias: bool, t: Tri)
+pub fn list_shape(slots: &mut Slots, antialias: bool, t: Tri)
     requires { TameTri t }
-    ensures { ListedIn (shape_masks antialias t view.scissor view.width view.height) slots.old slots.new }
+    ensures { let v = slots.old.view in ListedIn (shape_masks antialias t v.scissor v.width v.height) slots.old slots.new }
 {
+    let view = slots.view;
     let area = view.area();
     let rows = raster_edges::rows(t, area.top, area.bottom);
     for y in rows.start..rows.end {

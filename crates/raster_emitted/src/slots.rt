@@ -2,9 +2,13 @@
 ghost use Rattle.std.specs.Prelude.{◌≡◌, ℕ, ◌+◌, ◌-◌, ◌<◌, ◌≤◌, min, length};
 ghost use Rattle.raster_emitted.specs.Filled.{FilledIn};
 
-// Pixel first + i of a draw goes to slot i, and none is counted from limit on. So many pixels there were so far.
+use raster_pixel::View;
+
+// Of a draw in this view, pixel first + i goes to slot i, and none is counted from limit on. So many pixels there were so far. The slices are two, not one of pairs, as
+// C lends them.
 #[derive(Drop)]
 pub struct Slots<'a> {
+    pub view: View,
     pub first: u64,
     pub limit: u64,
     pub count: u64,
@@ -16,7 +20,7 @@ pub struct Slots<'a> {
 
 impl Slots<'_> {
     ghost use Rattle.raster_emitted.specs.Shapes.{run_masks};
-    ghost use Rattle.raster_emitted.specs.Listed.{ListedIn};
+    ghost use Rattle.raster_emitted.specs.Listed.{ListedIn, Cleared};
 
     // Pixels `pixel` up to `pixel + more`, the draw's next ones, each with these samples.
     pub fn list_run(&mut self, pixel: u32, mask: u8, more: u32)
@@ -40,6 +44,22 @@ impl Slots<'_> {
         let passed = self.first.saturating_sub(before) as u32;
         fill(self.pixels, self.masks, start, stop, pixel + passed, mask);
     }
+
+    // How many slots a pixel has reached: the first ones.
+    pub fn reached(&self) -> usize
+        ensures { result ≡ min (length self.now.masks.now) (self.now.count - self.now.first) }
+    {
+        slots_before(self.first, self.count, self.masks.len())
+    }
+
+    // Zeros in the slots that none has reached.
+    pub fn clear(&mut self)
+        ensures { Cleared self.old self.new }
+    {
+        let start = self.reached();
+        self.pixels[start..].fill(0);
+        self.masks[start..].fill(0);
+    }
 }
 
 // The count after `more` pixels, at most the limit.
@@ -52,7 +72,7 @@ fn counted(limit: u64, n: u64, more: u32) -> u64
 }
 
 // How many slots lie before the draw's n-th pixel, of those that there are.
-pub fn slots_before(first: u64, n: u64, slots: usize) -> usize
+fn slots_before(first: u64, n: u64, slots: usize) -> usize
     ensures { result ≡ min slots (n - first) }
 {
     n.saturating_sub(first).min(slots as u64) as usize
@@ -70,13 +90,4 @@ fn fill(pixels: &mut [u32], masks: &mut [u8], start: usize, stop: usize, number:
         pixels[i] = number + (i - start) as u32;
     }
     masks[start..stop].fill(mask);
-}
-
-// Zeros in the slots from `start` on.
-pub fn clear(pixels: &mut [u32], masks: &mut [u8], start: usize)
-    requires { (start ≤ length masks.old) × (length pixels.old ≡ length masks.old) }
-    ensures { FilledIn (λ (i : ℕ). 0) 0 start (length masks.old) pixels masks }
-{
-    pixels[start..].fill(0);
-    masks[start..].fill(0);
 }

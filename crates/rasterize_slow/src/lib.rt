@@ -15,12 +15,12 @@ ghost use Rattle.frame_paint.specs.Pixel.{DrewOn};
 ghost use Rattle.rasterize_slow.specs.Shape.{sample_hit, pair_hit, shape_mask, shape_shade, shape_fragment, TameShape, triangle_shape, three_shape, walk_of, pixel_emits, row_emits, shape_emits, triangles_emits, walk_emits};
 ghost use Rattle.rasterize_slow.specs.Sent.{Sent};
 
-use crate::sink::{Listing, Sink};
+use crate::sink::Sink;
 use combiner::Combiner;
 use frame_paint::Target;
 use raster_edges::Tri;
 use raster_emitted::Slots;
-use raster_pixel::{Fragment, Geometry, Shapes, View, lists};
+use raster_pixel::{Fragment, Geometry, Shapes, lists};
 use raster_rectangle::Sides;
 use raster_vertex::{Triangle, Vertex};
 use state::Rgba;
@@ -222,9 +222,8 @@ pub fn rasterize(target: &mut Target, shapes: &Shapes) -> u64
 }
 
 // The same pixels by number and mask, without a frame: they are counted, and those that are asked for are in their slots.
-pub fn list_pixels(slots: &mut Slots, view: View, shapes: &Shapes)
-    ensures { ListedIn (masks_as view shapes.now) slots.old slots.new }
+pub fn list_pixels(slots: &mut Slots, shapes: &Shapes)
+    ensures { ListedIn (masks_as slots.old.view shapes.now) slots.old slots.new }
 {
-    let mut listing = Listing { view, slots };
-    visit(&mut listing, shapes);
+    visit(slots, shapes);
 }

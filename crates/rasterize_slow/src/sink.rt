@@ -4,7 +4,9 @@ ghost use Rattle.raster_pixel.specs.declared.shapes.Shapes.{Shapes};
 ghost use Rattle.raster_pixel.specs.declared.view.View.{View};
 ghost use Rattle.raster_pixel.specs.Emitted.{Emit, emits};
 ghost use Rattle.frame_paint.specs.Pixel.{DrewOn};
-ghost use Rattle.rasterize_slow.specs.Laws.{drew_none, drew_then, ListedOn, listed_nothing, listed_both};
+ghost use Rattle.raster_emitted.specs.Masked.{masked_of};
+ghost use Rattle.raster_emitted.specs.Listed.{ListedIn};
+ghost use Rattle.rasterize_slow.specs.Laws.{drew_none, drew_then, listed_nothing, listed_both};
 
 use frame_paint::Target;
 use frame_paint::pixels::fragment_source;
@@ -60,17 +62,11 @@ impl Sink for Target<'_> {
     ghost same_view = { λ d es s t e. e.same.view };
 }
 
-// Slots for the pixels of a frame of this size, which is not lent.
-#[derive(Drop)]
-pub struct Listing<'s, 'a> {
-    pub view: View,
-    pub slots: &'s mut Slots<'a>,
-}
+// Those that are asked for are in their slots, and all are counted.
+impl Sink for Slots<'_> {
+    ghost view = { λ s. s.view };
 
-impl Sink for Listing<'_, '_> {
-    ghost view = { λ l. l.view };
-
-    ghost took = { λ d es s t. ListedOn es s t };
+    ghost took = { λ d es s t. ListedIn (map masked_of es) s t };
 
     fn view(&self) -> View {
         self.view
@@ -78,7 +74,7 @@ impl Sink for Listing<'_, '_> {
 
     fn emit(&mut self, shapes: &Shapes, fragment: Fragment, pixel: u32) {
         // a run of one pixel
-        self.slots.list_run(pixel, fragment.mask, 1);
+        self.list_run(pixel, fragment.mask, 1);
     }
 
     ghost took_none = { listed_nothing };

@@ -1,3 +1,4 @@
+use Rattle.std.proofs.Common.{refl, rules}
 use Rattle.frame_draw.specs.Draw.{draw_of}
 use Rattle.frame_emitted.proofs.Answers.{run_refused, run_unequal, run_accepted}
 use Rattle.frame_emitted.proofs.emitted_pixels.Goals as goal
@@ -10,4 +11,5 @@ returns-then-pixels-masks-clause-answer c = let a = c.args in (run_unequal (draw
 
 pub returns-clause-answer : goal.returns-clause-answer
 returns-clause-answer c =
-    let a = c.args in (run_accepted (draw_of a.draw.now) _ _ _ c.in_ok-view.ensures.plan c.list_from-emitted.ensures _ c.if-pixels-masks.false c.slots_before-listed.ensures).0
+    let a = c.args in
+    (run_accepted (draw_of a.draw.now) _ _ _ c.in_ok-view.ensures.plan _ refl refl c.if-pixels-masks.false c.list_by.ensures c.clear.ensures (search rules) (search rules) c.reached.ensures).0

@@ -1,8 +1,6 @@
-use Rattle.std.proofs.Common.{refl, ap, map, ◌∙◌, rules}
+use Rattle.std.proofs.Common.{refl, ap, map, ◌∙◌}
 use Rattle.combiner_resolved.specs.Resolved.{resolved_of, mixed_by}
 use Rattle.raster_emitted.specs.Masked.{masked_of}
-use Rattle.raster_emitted.specs.Shapes.{masks_as}
-use Rattle.raster_emitted.specs.Listed.{ListedIn}
 use Rattle.raster_emitted.proofs.Colorless.{geometry-masks}
 use Rattle.raster_emitted.proofs.Listing.{listed_as}
 use Rattle.rasterize_slow.specs.Shape.{walk_of}
@@ -13,9 +11,7 @@ pub returns : goal.returns
 returns c =
     let d = c.args.shapes.now in
     let l = d.lists in
-    let v = c.args.view in
+    let v = c.args.slots.now.view in
     let emitted = walk-emits (walk_of v d) v.scissor v.height refl d.cull l.vertices.now l.present.now l.indices.now d.geometry in
     let masks = geometry-masks d.combiner (mixed_by (resolved_of d.combiner)) d.mixed d.mode d.cull v.scissor v.width v.height l.vertices.now l.present.now l.indices.now d.geometry in
-    let listed : ListedIn (masks_as v d) c.args.slots.now c.visit.new.sink.slots.now =
-    listed_as (ap (map masked_of) emitted ∙ masks) c.visit.ensures.sent.taken.listed in
-    search rules
+    listed_as (ap (map masked_of) emitted ∙ masks) c.visit.ensures.sent.taken

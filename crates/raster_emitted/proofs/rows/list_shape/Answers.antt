@@ -11,7 +11,7 @@ loop-y-init c = (c.rows-rows.ensures.order, listing_start _ _ _)
 pub returns-then-slots : goal.returns-then-slots
 returns-then-slots c =
     let a = c.args in
-    let v = a.view in
+    let v = a.slots.now.view in
     let l = c.loop-y.invariant in
     listed_as (shape_rows a.antialias a.t v.scissor v.width v.height c.area-area.ensures.value c.rows-rows.ensures) (listing_stop _ _ c.loop-y.auto.y l.1 l.0 c.if-slots.true)
 
@@ -20,12 +20,12 @@ loop-y-preserved c =
     let a = c.args in
     let r = c.area-area.result in (
       omega (arith, c.loop-y-test.true),
-      listing_more _ _ c.loop-y.auto.y c.loop-y.invariant.1 (listed_as (row_kept a.antialias a.t a.view.width r.left r.right _ c.new.ensures.edges c.edges_at-edges.ensures c.bounds-kept.ensures.kept) c.list_row.ensures),
+      listing_more _ _ c.loop-y.auto.y c.loop-y.invariant.1 (listed_as (row_kept a.antialias a.t a.slots.now.view.width r.left r.right _ c.new.ensures.edges c.edges_at-edges.ensures c.bounds-kept.ensures.kept) c.list_row.ensures),
     )
 
 pub returns : goal.returns
 returns c =
     let a = c.args in
-    let v = a.view in
+    let v = a.slots.now.view in
     let l = c.loop-y.invariant in
     listed_as (shape_rows a.antialias a.t v.scissor v.width v.height c.area-area.ensures.value c.rows-rows.ensures) (listing_done _ _ c.loop-y.auto.y l.1 c.loop-y-test.false l.0)

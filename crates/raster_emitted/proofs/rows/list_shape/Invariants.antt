@@ -7,4 +7,4 @@ use Rattle.raster_emitted.proofs.rows.list_shape.Given as goal
 
 abbrev pub invariant-loop-y : goal.invariant-loop-y
 invariant-loop-y l =
-    (l.y ≤ l.y-end) × ListedIn (from (line_masks l.antialias l.t l.view.width l.area.left l.area.right) l.initial.y l.y) l.fn.slots l.slots
+    (l.y ≤ l.y-end) × ListedIn (from (line_masks l.antialias l.t l.fn.slots.view.width l.area.left l.area.right) l.initial.y l.y) l.fn.slots l.slots

@@ -7,16 +7,17 @@ use Rattle.raster_emitted.proofs.slots.Slots.list_run.Goals as goal
 pub returns-then-end-self : goal.returns-then-end-self
 returns-then-end-self c =
     let part = run_unlisted _ _ _ _ c.args.self.now.within c.counted-end.ensures (omega (arith, c.counted-end.ensures, c.args.self.now.within, c.if-end-self.true)) in
-    record { first = refl; limit = refl; pixels = refl; masks = refl; part = part }
+    record { view = refl; first = refl; limit = refl; pixels = refl; masks = refl; part = part }
 
 pub returns-then-start-stop : goal.returns-then-start-stop
 returns-then-start-stop c =
     let part = run_unlisted _ _ _ _ c.args.self.now.within c.counted-end.ensures (omega (arith, c.slots_before-start.ensures, c.slots_before-stop.ensures, c.if-start-stop.true)) in
-    record { first = refl; limit = refl; pixels = refl; masks = refl; part = part }
+    record { view = refl; first = refl; limit = refl; pixels = refl; masks = refl; part = part }
 
 pub returns : goal.returns
 returns c =
     record {
+      view = refl;
       first = refl;
       limit = refl;
       pixels = refl;

@@ -1,7 +1,0 @@
-use Rattle.std.proofs.Common.{refl}
-use Rattle.raster_pixel.proofs.Parts.{from_one}
-use Rattle.raster_emitted.proofs.Listing.{listed_as}
-use Rattle.rasterize_slow.proofs.sink.ListingSink.emit.Goals as goal
-
-pub returns : goal.returns
-returns c = record { listed = listed_as (from_one _ c.args.pixel) c.list_run.ensures; view = refl; slots = refl }
