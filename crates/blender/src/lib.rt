@@ -64,7 +64,7 @@ pub fn blending(mode: RenderMode, count: u8, coverage: Coverage) -> bool
     mode.force_blend || (mode.antialias && !overflowing(count, coverage))
 }
 
-// cvg_dst 0.
+// cvg_dst 0. That samples are 1 to 8 and a coverage at most 7 are clauses, here and below, and no types: the definitions take any numbers.
 #[tactic(auto, unfolding(crate::specs::Coverage::clamp_of))]
 fn clamp(blend: bool, count: u8, memory: u8) -> u8
     requires { (1 ≤ count) × (count ≤ 8) × (memory ≤ 7) }
@@ -200,7 +200,7 @@ fn factor_b(selector: u32, a: f32, coverage: u8) -> f32
     }
 }
 
-// A NaN fails the test too, as in Rust's max.
+// A NaN fails the test too, as in Rust's max. std's `max` was tried, and the search did not prove the definition from its contract.
 fn divisor(sum: f32) -> f32
     ensures { result ≡ divisor_of sum }
 {
@@ -220,7 +220,8 @@ fn mixed(stands: bool, forced: bool, p: f32, a: f32, m: f32, b: f32) -> f32
     if forced { sum } else { sum / divisor(a + b) }
 }
 
-// The colour of a pixel that is opaque: P is not the memory's.
+// The colour of a pixel that is opaque: P is not the memory's. Mode and combiner stay two parameters, here and in the crates above: some functions take one
+// of them alone, `blend` takes both as the Rust does, and Paint and Shapes hold them among other fields, so that a struct of the two would be made for calls only.
 #[tactic(auto, unfolding(crate::specs::Layer::own_of))]
 pub fn own_color(mode: RenderMode, combiner: Combiner, rgba: Rgba) -> Rgba
     ensures { result ≡ own_of mode combiner rgba }

@@ -16,7 +16,8 @@ use raster_rectangle::Sides;
 use raster_vertex::Vertex;
 use state::Rgba;
 
-// What a draw covers: 0 nothing, 1 triangles, 2 the rectangle with these sides. A kind above 2 is nothing.
+// What a draw covers: 0 nothing, 1 triangles, 2 the rectangle with these sides. A kind above 2 is nothing. A number beside the sides, as C has no enum with
+// fields.
 #[repr(C)]
 #[derive(Clone, Copy)]
 pub struct GeometryParts {
@@ -27,7 +28,8 @@ pub struct GeometryParts {
     pub bottom: f32,
 }
 
-// What a pixel emits: its sample mask, its combined colour and its shade alpha. A mask of 0 is nothing, with zeros beside it.
+// What a pixel emits: its sample mask, its combined colour and its shade alpha. A mask of 0 is nothing, with zeros beside it, as C has
+// no Option.
 #[repr(C)]
 #[derive(Clone, Copy)]
 pub struct FragmentAnswer {

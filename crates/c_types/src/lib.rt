@@ -38,7 +38,8 @@ pub struct Mode {
     pub cvg_x_alpha: bool,
 }
 
-// A combiner. The selectors are ca, cb, cc, cd, aa, ab, ac, ad by their numbers: a colour's above 20 is Noise, an alpha's above 9 PrimLodFrac.
+// A combiner. The selectors are ca, cb, cc, cd, aa, ab, ac, ad by their numbers, as C may pass any: a colour's above 20 is Noise, an alpha's above 9
+// PrimLodFrac.
 #[repr(C)]
 #[derive(Clone, Copy)]
 pub struct Parts {
@@ -50,7 +51,7 @@ pub struct Parts {
     pub lod: f32,
 }
 
-// Both cycles' selectors by their numbers.
+// Both cycles' selectors by their numbers, as in Parts.
 #[repr(C)]
 #[derive(Clone, Copy)]
 pub struct Selectors {

@@ -13,7 +13,7 @@ fn color_is_shade(input: ColorIn) -> bool
 }
 
 #[tactic(auto, unfolding(crate::specs::Shaded::shade_alpha, combiner_inputs::specs::Inputs::alpha_number))]
-pub fn alpha_is_shade(input: AlphaIn) -> bool
+fn alpha_is_shade(input: AlphaIn) -> bool
     ensures { result ≡ shade_alpha input }
 {
     input == AlphaIn::Shade

@@ -17,7 +17,7 @@ use state::{RenderMode, Rgba, Rgba8};
 
 pub mod full; // pixels with all eight samples
 
-// A pixel of the frame.
+// A pixel of the frame. That a known coverage is at most 7 is a clause and no ghost field, since definitions make a Pixel of any bytes.
 #[derive(Clone, Copy)]
 pub struct Pixel {
     pub red: u8,
@@ -144,10 +144,11 @@ fn unit_of(byte: u8) -> f32
 
 // The colour bytes are looked at only if they are marked.
 #[tactic(auto, unfolding(crate::specs::Rules::memory_of))]
-fn memory_of(marked: bool, bytes: Pixel) -> Option<Rgba>
-    ensures { (is_some result ≡ marked) × (or_zeros result ≡ memory_of marked bytes) }
+fn memory_of(bytes: Pixel) -> Option<Rgba>
+    ensures there { is_some result ≡ color_marked bytes.mark }
+    ensures color { or_zeros result ≡ memory_of (color_marked bytes.mark) bytes }
 {
-    if marked {
+    if color_marked(bytes.mark) {
         return Some(Rgba {
             r: unit_of(bytes.red),
             g: unit_of(bytes.green),
@@ -158,7 +159,7 @@ fn memory_of(marked: bool, bytes: Pixel) -> Option<Rgba>
     None
 }
 
-// F1 to F3 of a pixel that is blended: its colour, if it is then known.
+// F1 to F3 of a pixel that is blended: its colour, if it is then known. Mode and combiner are two parameters, for the reason beside blender's `own_color`.
 fn blended(mode: RenderMode, combiner: Combiner, source: Source, bytes: Pixel) -> Option<Colors>
     ensures { result ≡ colored_of mode combiner source bytes }
 {
@@ -166,12 +167,13 @@ fn blended(mode: RenderMode, combiner: Combiner, source: Source, bytes: Pixel) -
     if in_doubt(mode, source, coverage) {
         return None;
     }
-    let memory = memory_of(color_marked(bytes.mark), bytes);
+    let memory = memory_of(bytes);
     let stored = blender::blend_known(mode, combiner, source, coverage, memory)?;
     Some(Colors::from(stored))
 }
 
-// F1 to F3, one by one.
+// F1 to F3, one by one. This and `rules` stand apart from `blended` and `step` for speed: a further caller of `step` costs the fast engine more than a quarter
+// of its speed (docs/DECISIONS.md, Shape).
 fn color_by_rules(
     mode: RenderMode,
     combiner: Combiner,
@@ -187,7 +189,7 @@ fn color_by_rules(
     if doubt || !blender::color_known(mode, color.a, source.count, coverage, marked) {
         return None;
     }
-    let memory = blender::color_or_zeros(memory_of(marked, bytes));
+    let memory = blender::color_or_zeros(memory_of(bytes));
     let stored = blender::blend(
         mode,
         combiner,

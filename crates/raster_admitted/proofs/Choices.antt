@@ -8,8 +8,5 @@ taken t x y h = λ i. cond (sym h i) x y
 pub passed : {A : Type 0} (t : Bool) (x y : A) {z : A} → t ≡ false → z ≡ y → z ≡ cond t x y
 passed t x y h e = e ∙ (λ i. cond (sym h i) x y)
 
-pub or_first : {s : Bool} (t : Bool) → s ≡ true → s || t ≡ true
-or_first t h = λ i. h i || t
-
 pub or_next : {s t r : Bool} → s ≡ false → t ≡ r → s || t ≡ r
 or_next g h = λ i. g i || h i

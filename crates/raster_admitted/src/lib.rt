@@ -44,6 +44,7 @@ pub fn look_up(vertices: &[f32], present: &[u8], index: u32) -> Option<Vertex>
     })
 }
 
+// By itself: with the four tests written out, the search left `reads_shade` unproved.
 #[tactic(auto, unfolding(combiner_inputs::specs::Inputs::alpha_number))]
 fn is_shade(input: AlphaIn) -> bool
     ensures { result ≡ is_shade input }

@@ -45,7 +45,7 @@ pub fn away(num: i64, den: i64) -> i64
     }
 }
 
-// An edge's x on a quarter line.
+// An edge's x on a quarter line. The line's bound is a clause, here and below, and no type: scan is a counter.
 fn edge_at(e: Edge, scan: u32) -> i64
     requires { (Tame e) × (scan ≤ 16384) }
     ensures { result ≡ edge_at e scan }
@@ -154,6 +154,7 @@ fn edge_of_rows(e: [i64; 4], i: usize, j: usize, low: bool) -> u32
 }
 
 // The first pixel all of whose samples lie right of their left edges. The leftmost samples of pixel x are at 8 x, and at 8 x + 2 on the odd rows.
+// Apart from `full_to`: one function of both would take the end, both constants, and max or min.
 #[tactic(auto, using(crate::proofs::Clamped::rows_le), unfolding(crate::specs::Bound::full_from))]
 pub fn full_from(l: [i64; 4]) -> u32
     ensures { result ≡ full_from l }

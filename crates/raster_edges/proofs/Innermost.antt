@@ -16,6 +16,7 @@ use Rattle.raster_edge.specs.Bound.{pick_z, outer_of, range_of, edge_of_rows, fu
 use Rattle.raster_edges.specs.Bound.{all_samples}
 use Rattle.raster_edge.proofs.Clamped.{below_clamp, above_clamp}
 use Rattle.raster_edges.proofs.Outside.{le_flip}
+use Rattle.raster_edges.proofs.Lines.{lt_down}
 
 -- ---- order
 le_le : (a b : ℤ) (n : ℕ) → le_z a b ≡ true → le_z b (pos n) ≡ true → le_z a (pos n) ≡ true
@@ -30,10 +31,6 @@ lt_le (negsuc a) b n s t = cc
 
 le_up : (z : ℤ) (m n : ℕ) → m ≤ n → le_z z (pos m) ≡ true → le_z z (pos n) ≡ true
 le_up z m n h t = le_le z (pos m) n t (le-leb m n h)
-
-lt_down : (z : ℤ) (m n : ℕ) → m ≤ n → lt_z (pos n) z ≡ true → lt_z (pos m) z ≡ true
-lt_down (pos a) m n h t = lt-ltb m a (omega (arith, ltb-true n a t))
-lt_down (negsuc a) m n h t = cc
 
 -- from the larger of two on, and before the smaller
 module _ (a b : ℤ) (n : ℕ) where

@@ -23,7 +23,7 @@ not_le_down : (z : ℤ) (m n : ℕ) → m ≤ n → lt_z (pos n) z ≡ true → 
 not_le_down (pos a) m n h t = lt-leb a m (omega (arith, ltb-true n a t))
 not_le_down (negsuc a) m n h t = cc
 
-lt_down : (z : ℤ) (m n : ℕ) → m ≤ n → lt_z (pos n) z ≡ true → lt_z (pos m) z ≡ true
+pub lt_down : (z : ℤ) (m n : ℕ) → m ≤ n → lt_z (pos n) z ≡ true → lt_z (pos m) z ≡ true
 lt_down (pos a) m n h t = lt-ltb m a (omega (arith, ltb-true n a t))
 lt_down (negsuc a) m n h t = cc
 

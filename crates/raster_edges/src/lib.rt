@@ -35,7 +35,8 @@ pub struct Tri {
     pub rightward: bool,
 }
 
-// The spans of a row's four quarter lines.
+// The spans of a row's four quarter lines, by side and not as four Spans: `raster_edge::four` makes one side's lines of one edge, and `outermost`, `full_from`
+// and `full_to` take a side's four at once.
 #[derive(Clone, Copy)]
 pub struct Edges {
     pub left: [i64; 4],
@@ -105,7 +106,8 @@ pub fn setup(v: [Corner; 3]) -> Tri
     }
 }
 
-// What the triangle spans on a quarter line: nothing above its top or from its end.
+// What the triangle spans on a quarter line: nothing above its top or from its end. Here and below a line's, a row's or a pixel's bound is a clause and no
+// type: each is a counter.
 pub fn line_at(t: Tri, scan: u32) -> Span
     requires { (TameTri t) × (scan ≤ 16384) }
     ensures { result ≡ line_of t scan }

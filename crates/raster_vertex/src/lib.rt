@@ -100,7 +100,7 @@ pub fn area(a: Vertex, b: Vertex, c: Vertex) -> f32
     edge(a, b, c.x, c.y)
 }
 
-// Whether a is at or before b: by y, then x, in total_cmp's order.
+// Whether a is at or before b: by y, then x, in total_cmp's order. No PartialOrd of Vertex: colours do not enter, so that two would be equal that are not.
 #[tactic(auto, unfolding(crate::specs::Sorted::at_or_before))]
 fn at_or_before(a: Vertex, b: Vertex) -> bool
     ensures { result ≡ at_or_before a b }
@@ -133,7 +133,8 @@ pub fn sort(v: [Vertex; 3]) -> [Vertex; 3]
     [c, b, a]
 }
 
-// The colour at the upper left corner of pixel x, y. A vertex's weight is the edge across from it.
+// The colour at the upper left corner of pixel x, y. A vertex's weight is the edge across from it. The bounds, here and in row.rt, are clauses and no types:
+// x and y are counters.
 #[tactic(auto, using(crate::proofs::Rows::row_shade))]
 pub fn shade(v: [Vertex; 3], x: usize, y: usize) -> Rgba
     requires { (x < 1024) × (y < 1024) }

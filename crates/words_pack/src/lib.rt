@@ -11,7 +11,8 @@ ghost use Rattle.words_pack.specs.Writer.{supported_of, pixel_bytes_of, bytes_of
 use state::Rgba8;
 
 // An image's format and size of a pixel, as Set Color Image numbers them, and its width in pixels. Numbers and no enums: a word of the console may hold any,
-// and `supported` says which have a writer.
+// and `supported` says which have a writer. That siz is at most 3 and width not 0 are clauses and no ghost fields: a Writer is made before
+// number 9 or 11 tells, and definitions that are to be believed take any.
 #[derive(Clone, Copy)]
 pub struct ImageLayout {
     pub fmt: u8,
@@ -59,7 +60,7 @@ pub fn pack_channel(v: u8, threshold: u8) -> u8
     v.saturating_add(7u8.saturating_sub(threshold)) / 8
 }
 
-// A colour's word: five bits of each channel, and the coverage's top bit.
+// A colour's word: five bits of each channel, and the coverage's top bit. That a coverage is at most 7 is a clause and no type: definitions take any number.
 pub fn pack_color(rgba: Rgba8, coverage: u8, dither: u8) -> u16
     requires { coverage ≤ 7 }
     ensures { result ≡ pack_color_of rgba coverage dither }

@@ -44,6 +44,7 @@ fn siz_ok(siz: u8) -> bool
     siz <= LARGEST
 }
 
+// `size_ok` of crate frame has the same bounds for another number, 1, and neither crate rests on the other.
 fn width_ok(width: u32) -> bool
     ensures { result ≡ width_ok width }
 {

@@ -2,7 +2,7 @@ use mathlib.Core.Path.{sym, ap, ◌∙◌}
 use native.Mathlib.Omega.{arith}
 use Rattle.std.specs.Prelude.{Some, option_map}
 use Rattle.blender.specs.Joined.{joined}
-use Rattle.frame_pixel.specs.Rules.{rule_f2, memory_of}
+use Rattle.frame_pixel.specs.Rules.{rule_f2}
 use Rattle.frame_pixel.specs.Coloring.{stored_of}
 use Rattle.frame_pixel.proofs.Colorings.{in_doubt, joined_colored}
 use Rattle.frame_pixel.proofs.blended.Goals as goal
@@ -21,8 +21,7 @@ returns-in_err-stored c =
     let told = c.blend_known.ensures ∙ (λ i. joined a.mode a.combiner a.source (c.known_coverage-coverage.ensures i) m.result) in
     let e =
     ap (option_map stored_of) (sym c.in_err-stored.was ∙ told)
-    ∙ joined_colored a.mode a.combiner a.source a.bytes m.result sure (m.ensures.0 ∙ c.color_marked.ensures)
-    (m.ensures.1 ∙ (λ i. memory_of (c.color_marked.ensures i) a.bytes)) in
+    ∙ joined_colored a.mode a.combiner a.source a.bytes m.result sure m.ensures.there m.ensures.color in
     grind arith
 
 pub returns : goal.returns
@@ -33,5 +32,4 @@ returns c =
     let told = c.blend_known.ensures ∙ (λ i. joined a.mode a.combiner a.source (c.known_coverage-coverage.ensures i) m.result) in
     ap Some c.from.ensures
     ∙ ap (option_map stored_of) (sym c.in_ok-stored.was ∙ told)
-    ∙ joined_colored a.mode a.combiner a.source a.bytes m.result sure (m.ensures.0 ∙ c.color_marked.ensures)
-    (m.ensures.1 ∙ (λ i. memory_of (c.color_marked.ensures i) a.bytes))
+    ∙ joined_colored a.mode a.combiner a.source a.bytes m.result sure m.ensures.there m.ensures.color

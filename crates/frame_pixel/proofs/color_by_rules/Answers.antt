@@ -1,7 +1,7 @@
 use mathlib.Core.Path.{sym, ap, ◌∙◌}
 use Rattle.std.specs.Prelude.{Some}
 use Rattle.blender.specs.Blend.{or_zero, blend_of}
-use Rattle.frame_pixel.specs.Rules.{rule_f1, rule_f2, rule_f3, memory_of}
+use Rattle.frame_pixel.specs.Rules.{rule_f1, rule_f2, rule_f3}
 use Rattle.frame_pixel.specs.Coloring.{stored_of}
 use Rattle.frame_pixel.proofs.Colorings.{not_known, in_doubt, was_known}
 use Rattle.frame_pixel.proofs.color_by_rules.Goals as goal
@@ -25,7 +25,7 @@ returns c =
     let a = c.args in
     let first = c.color_known.ensures ∙ (λ i. rule_f1 a.mode a.source (c.known_coverage-coverage.ensures i) (c.color_marked-marked.ensures i)) in
     let second = c.in_doubt-doubt.ensures ∙ ap (rule_f2 a.mode a.source) c.known_coverage-coverage.ensures in
-    let memory = c.color_or_zeros-memory.ensures ∙ c.memory_of.ensures.1 ∙ (λ i. memory_of (c.color_marked-marked.ensures i) a.bytes) in
+    let memory = c.color_or_zeros-memory.ensures ∙ c.memory_of.ensures.color in
     let samples = c.unwrap_or.ensures ∙ ap or_zero c.known_coverage-coverage.ensures in
     let bytes = c.blend-stored.ensures ∙ (λ i. blend_of a.mode a.combiner a.source.color (memory i) a.source.shade_alpha a.source.count (samples i)) in
     ap Some (c.from.ensures ∙ ap stored_of bytes)
