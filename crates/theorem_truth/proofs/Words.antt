@@ -51,7 +51,11 @@ module _ {y x : Pixel} (h : KnowsPixel y x) where
     unfolding word_of
     same_word =
         grind (
-          arith, same_color, same_coverage, size_one r w supported, one_byte w r.fmt (bytes_of y) (or_zero (coverage_of y.mark y.coverage)) (or_zero (coverage_of x.mark x.coverage)) r.pixel r.dither r.encoding,
+          arith,
+          same_color,
+          same_coverage,
+          size_one r w supported,
+          one_byte w r.fmt (bytes_of y) (or_zero (coverage_of y.mark y.coverage)) (or_zero (coverage_of x.mark x.coverage)) r.pixel r.dither r.encoding,
         )
 
 module _ (w h : ℕ) {g f : Frame} (a : KnowsAtLeast w h g f) where
