@@ -1,5 +1,6 @@
 // The pixels that a draw emits, by number and sample mask alone: counted, and listed in two lent slices from one of them on. Nothing is drawn and no colour is worked
-// out; a run of full pixels is passed by its length.
+// out; a run of full pixels is passed by its length. It is a walk of its own beside rasterize's: what the two have in common are loops of a few lines, and a row's
+// shades, runs by the paint, and the stop at the limit differ, so that one walk over a trait would have more in its trait than in common.
 #![tactic(auto)]
 
 ghost use Rattle.std.specs.Prelude.{◌≡◌};

@@ -1,12 +1,8 @@
--- A triangle's corners: that an admitted triangle's are near, and that its edges are then tame; and when its area is not 0. Assumes nothing.
-use mathlib.Core.Path.{◌≡◌, refl, sym, ap, subst, ◌∙◌}
-use mathlib.Core.Bool.{true, false}
+-- A triangle's corners: that an admitted triangle's are near, and that its edges are then tame. Assumes nothing.
+use mathlib.Core.Path.{◌≡◌, sym, ap, subst, ◌∙◌}
+use mathlib.Core.Bool.{true}
 use mathlib.Core.List.{List, [], ◌∷◌, map}
-use Prim.Native.Nat.{ℕ, zero, suc}
-use native.Mathlib.Omega.{arith}
-use borrow.Author.Tests.{ne_eqb}
-use lib.Dec.{eqb}
-use lib.IntN.{ℤ, pos, negsuc, nat_abs}
+use Prim.Native.Nat.{ℕ}
 use lib.Ieee.{Float}
 use Rattle.combiner.specs.declared.Combiner.{Combiner}
 use Rattle.raster_vertex.specs.declared.Vertex.{Vertex}
@@ -23,11 +19,6 @@ use Rattle.raster_pixel.specs.Admitted.{admitted_of}
 use Rattle.raster_pixel.specs.Near.{CornersNear, TrianglesNear}
 use Rattle.raster_pixel.specs.Emitted.{corner_of}
 use Rattle.raster_pixel.proofs.Checked.{AllIn, admitted_in, sorted_near}
-
-pub nonzero : (z : ℤ) → (z ≡ pos 0 → ⊥) → eqb (nat_abs z) 0 ≡ false
-nonzero (pos zero) h = absurd (h refl)
-nonzero (pos (suc n)) h = ne_eqb (suc n) 0 (λ e. omega arith)
-nonzero (negsuc n) h = ne_eqb (suc n) 0 (λ e. omega arith)
 
 module _ (a b c : Vertex) {v : List Vertex} (ev : v ≡ sorted (a ∷ b ∷ c ∷ [])) {q : List Corner} (eq : q ≡ map corner_of v) where
   pub corners_are : q ≡ map corner_of (sorted (a ∷ b ∷ c ∷ []))

@@ -9,7 +9,7 @@ use combiner::Combiner;
 use raster_admitted::Check;
 use raster_vertex::Triangle;
 
-// The three lists of a draw: six floats and a presence flag for each vertex, three indices for each triangle.
+// The three lists of a draw, as C lends them: six floats and a presence flag for each vertex, three indices for each triangle.
 #[derive(Clone, Copy)]
 pub struct Lists<'a> {
     pub vertices: &'a [f32],

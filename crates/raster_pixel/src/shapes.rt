@@ -28,7 +28,7 @@ pub struct Shapes<'a> {
 }
 
 impl Shapes<'_> {
-    // Triangle i, set up to be drawn.
+    // Triangle i, set up to be drawn. That there are triangles is a clause, here and in its callers: a struct of the draws that have them would be a second Shapes.
     pub fn set_up(&self, i: usize) -> Option<(Tri, [Vertex; 3])>
         requires triangles { self.now.geometry ≡ Triangles }
         requires listed { i < length self.now.lists.indices.now / 3 }

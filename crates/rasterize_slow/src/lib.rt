@@ -62,7 +62,7 @@ fn indexed(shapes: &Shapes, i: usize) -> Option<Shape>
 // ---- the samples of a pixel. That column and row are below 1,024 is a clause here and below: nothing keeps a place, it is the loops' two counters.
 
 // Whether a shape holds a sample of pixel (x, y): on line 0 to 3 of its four, the left one, side 0, or the right one, side 1. On the odd lines both lie a quarter of a
-// pixel further right.
+// pixel further right. Line and side are numbers, since a sample's place is reckoned from them.
 #[tactic(auto, unfolding(crate::specs::Shape::sample_hit))]
 fn sample(shape: &Shape, y: u32, x: u32, line: u32, side: u32) -> bool
     requires { (x < 1024) × (y < 1024) × (line < 4) × (side < 2) × TameShape shape.now }
