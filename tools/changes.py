@@ -1,5 +1,5 @@
 #!/usr/bin/env python3
-"""changes.py COMMIT: what has changed since COMMIT, old beside new, as the last part of docs/DESIGN-PASS.md has it: public functions with their clauses, definitions of specs/, and
+"""changes.py COMMIT: what has changed since COMMIT, old beside new, as the last part of docs/DESIGN-PASS.md has it: ghost items of types, traits and impls, public functions with their clauses, definitions of specs/, and
 the laws (lemmas outside a function's folder) that README.md or docs/ name. Spelling alone does not count: cond for if, eqb for ==, ltb and leb for nat_lt and nat_le, get_or for slice_index."""
 import difflib
 import re
@@ -58,6 +58,24 @@ def functions(texts):
     return found
 
 
+def facts(texts):
+    """The ghost items of structs, traits and impls, and the clauses of a trait's methods, by the head that they stand under."""
+    found = {}
+    for name, text in texts.items():
+        head, lines = None, text.split("\n")
+        for i, line in enumerate(lines):
+            if re.match(r"(pub )?(struct|enum|trait|impl)\b", line):
+                head = name.split("/")[1], line.removeprefix("pub ").rstrip(" {")
+            elif line.startswith("}"):
+                head = None
+            elif head and re.match(r"    (pub )?ghost (?!use)", line):
+                found[head] = found.get(head, "") + line.strip().rstrip(",;") + "\n"
+            elif head and head[1].startswith("trait") and line.startswith("    fn "):
+                end = next(j for j in range(i, len(lines)) if lines[j].endswith(";"))
+                found[head] = found.get(head, "") + "\n".join(rest.strip() for rest in lines[i : end + 1]) + "\n"
+    return {head: items for head, items in found.items() if "ghost" in items or "ensures" in items}
+
+
 def definitions(texts):
     found = {}
     for name, text in texts.items():
@@ -99,6 +117,7 @@ SRC, SPECS, LAWS = r"/src/.*\.rt$", r"/specs/.*\.antt$", r"^crates/\w+/proofs/\w
 # Of the programs' crates those that promise something.
 old, new = functions(files(commit, SRC)), functions(files("", SRC))
 silent = {k for k in set(old) | set(new) if k[0].startswith("replay") and not re.search("requires|ensures", old.get(k, "") + new.get(k, ""))}
+table("Type invariants, laws of traits and what conversions promise", facts(files(commit, SRC)), facts(files("", SRC)))
 table("Public functions and conversions", old, new, lambda key: key not in silent)
 table("Definitions", definitions(files(commit, SPECS)), definitions(files("", SPECS)))
 pages = "".join(run("git", "show", f"{commit}:{p}") for p in run("git", "ls-tree", "-r", "--name-only", commit, "README.md", "docs").split() if p.endswith(".md") and not p.endswith("PORT.md"))
