@@ -56,7 +56,8 @@ fn overflowing(count: u8, coverage: Coverage) -> bool
     coverage.is_some_and(|c| 8 <= count as u32 + c as u32)
 }
 
-// Whether the pixel is blended with memory.
+// Whether the pixel is blended with memory. Mode, count and coverage stay three parameters, here, below and in frame_pixel: the mode is the draw's, the count the pixel's and
+// the coverage the memory's, so that a struct of them would be made for a call.
 #[tactic(auto, unfolding(crate::specs::Coverage::blends))]
 pub fn blending(mode: RenderMode, count: u8, coverage: Coverage) -> bool
     ensures { result ≡ blends mode count coverage }
@@ -265,7 +266,7 @@ pub fn blend(
     in_bytes(stands, mode.force_blend, p, a, m, b, rgba.a)
 }
 
-// A colour that is not known is passed as zeros.
+// A colour that is not known is passed as zeros. c_answers' `no_color` has the same zeros for another need: what C is answered where there is no colour.
 pub fn color_or_zeros(memory: Option<Rgba>) -> Rgba
     ensures { result ≡ or_zeros memory }
 {

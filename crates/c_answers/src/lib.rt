@@ -15,7 +15,7 @@ use refused::Refusal;
 use state::{Rgba, Rgba8};
 use words_pack::Bytes2;
 
-// The number (docs/RULES.md) and the value: a coverage, 1 for yes, a word, or bytes with the first lowest.
+// The number (docs/RULES.md) and the value: a coverage, 1 for yes, a word, or bytes with the first lowest. A number with a value beside it, as C has no Result.
 #[repr(C)]
 #[derive(Clone, Copy)]
 pub struct Answer {
@@ -176,6 +176,7 @@ impl From<Option<u16>> for StrictAnswer {
     }
 }
 
+// What stands in an answer for a colour that is not there. `color_or_zeros` (blender) has the same zeros for another need: what is passed of a memory that is not known.
 pub fn no_color() -> Rgba
     ensures { result ≡ no_color }
 {

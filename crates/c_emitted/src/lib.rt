@@ -53,7 +53,7 @@ fn indexed(
     triangle(antialias, combiner, cull, t, y, x)
 }
 
-// Pixel (x, y) of triangle i of a draw, or of its rectangle.
+// Pixel (x, y) of triangle i of a draw, or of its rectangle. Row and column are two numbers, as the test entry of C has them.
 #[tactic(auto, unfolding(crate::specs::Emitted::emitted_pixel))]
 pub fn pixel(
     antialias: bool,

@@ -22,7 +22,7 @@ use words_read::Format;
 
 pub mod emitted; // the emitted pixels of a draw
 
-// 0 is the fast engine, and every other number the slow one: a rule of this interface alone, and no From of Engine's own crate.
+// 0 is the fast engine, and every other number the slow one, since C may pass any: a rule of this interface alone, and no From of Engine's own crate.
 pub fn engine_of(number: u8) -> Engine
     ensures { result ≡ engine_of number }
 {

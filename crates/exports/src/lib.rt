@@ -1,6 +1,6 @@
 // The C interface: every function that the static library has, by its C name. Each takes plain values, is total, and is one call of a function below that has the same
 // contract, over the lists or the draw that the values make; a static library has only the exported functions of the crate that it is built from. include/writeback.h declares
-// the same for C.
+// the same for C. A flag with a value beside it stands for an Option, which C has not.
 #![tactic(auto)]
 
 ghost use Rattle.std.specs.Prelude.{◌≡◌, ◌&&◌};

@@ -20,7 +20,8 @@ use refused::Refusal;
 pub mod load; // the loads of colour and coverage bytes
 pub mod refusal; // numbers 1 to 3
 
-// A frame to be read, as numbers 1 to 3 let it through. Its slices are private, so that a pixel's bytes are had only as far as they are known.
+// A frame to be read, as numbers 1 to 3 let it through. Its slices are private, so that a pixel's bytes are had only as far as they are known; they are three, and not
+// one of pixels, as C lends them.
 #[derive(Clone, Copy)]
 pub struct Frame<'a> {
     pub width: u32,
@@ -34,7 +35,7 @@ pub struct Frame<'a> {
 impl<'a> Frame<'a> {
     ghost use Rattle.frame.specs.Shown.{seen, Shows};
 
-    // The frame, or the first of numbers 1 to 3 that holds.
+    // The frame, or the first of numbers 1 to 3 that holds. It takes the slices as a host lends them, since before these numbers nothing says that they are a frame.
     #[tactic(auto, using(crate::proofs::Fits::accepted))]
     pub fn new(
         width: u32,
@@ -115,7 +116,7 @@ pub fn known_pixel(colors: &[u8], coverages: &[u8], marks: &[u8], pixel: usize) 
     }
 }
 
-// Stores a byte that is known.
+// Stores a byte that is known. A flag with the byte beside it, for the reason that `store` gives.
 fn put_byte(bytes: &mut [u8], at: usize, known: bool, byte: u8)
     requires { at < length bytes.old }
     ensures { new bytes ≡ put_if known (old bytes) at byte }

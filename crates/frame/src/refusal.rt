@@ -177,7 +177,7 @@ impl Marked<'_> {
     }
 }
 
-// Whether the frame is turned away: by the first of numbers 1 to 3 that holds.
+// Whether the frame is turned away: by the first of numbers 1 to 3 that holds. It takes the bare slices: whether they are a frame is what it answers.
 #[tactic(auto, unfolding(crate::specs::Checks::frame_refusal))]
 pub fn frame_refusal(
     colors: &[u8],

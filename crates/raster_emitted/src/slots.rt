@@ -4,8 +4,8 @@ ghost use Rattle.raster_emitted.specs.Filled.{FilledIn};
 
 use raster_pixel::View;
 
-// Of a draw in this view, pixel first + i goes to slot i, and none is counted from limit on. So many pixels there were so far. The slices are two, not one of pairs, as
-// C lends them.
+// Of a draw in this view, pixel first + i goes to slot i, and none is counted from limit on. `count` is how many there were so far. The slices are two, not one of
+// pairs, as C lends them.
 #[derive(Drop)]
 pub struct Slots<'a> {
     pub view: View,

@@ -12,9 +12,7 @@ use Rattle.raster_edges.specs.declared.Tri.{Tri}
 use Rattle.raster_edges.specs.Limits.{AllNear, TameTri}
 use Rattle.raster_edges.specs.Span.{tri_of}
 use Rattle.raster_edges.proofs.Tame.{tame}
-use Rattle.raster_pixel.specs.declared.Geometry.{Geometry}
 use Rattle.raster_pixel.specs.declared.Geometry.TheVariants.{Triangles}
-use Rattle.raster_pixel.specs.declared.shapes.Shapes.{Shapes}
 use Rattle.raster_pixel.specs.Admitted.{admitted_of}
 use Rattle.raster_pixel.specs.Near.{CornersNear, TrianglesNear}
 use Rattle.raster_pixel.specs.Emitted.{corner_of}
@@ -33,10 +31,3 @@ module _ (a b c : Vertex) {v : List Vertex} (ev : v ≡ sorted (a ∷ b ∷ c �
 -- those of an admitted list are
 pub admitted_near : (k : Combiner) (vs : List Float) (ps is : List ℕ) → admitted_of k Triangles vs ps is ≡ true → TrianglesNear vs ps is
 admitted_near k vs ps is h i l t e = sorted_near t (subst AllIn e (admitted_in k vs ps is h i l))
-
--- those of an accepted draw are
-pub shapes_near : (s : Shapes) → s.geometry ≡ Triangles → TrianglesNear s.lists.vertices.now s.lists.present.now s.lists.indices.now
-shapes_near s e =
-    let l = s.lists in
-    admitted_near s.combiner l.vertices.now l.present.now l.indices.now
-    (subst (λ (g : Geometry). admitted_of s.combiner g l.vertices.now l.present.now l.indices.now ≡ true) e s.admitted)

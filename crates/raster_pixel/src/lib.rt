@@ -32,7 +32,7 @@ pub struct Scissor {
     pub height: u32,
 }
 
-// The part of a frame inside a scissor: columns left up to right and rows top up to bottom, right and bottom left out.
+// The part of a frame inside a scissor: columns left up to right and rows top up to bottom, right and bottom left out. `Sides` (raster_rectangle) are any four floats.
 #[derive(Clone, Copy)]
 pub struct Area {
     pub left: u32,

@@ -18,7 +18,7 @@ pub struct Row {
 }
 
 impl Row {
-    // The row from start up to end.
+    // The row from start up to end: two numbers and no Range, since a caller has them apart and no Range says that it does not end before it starts.
     pub fn new(edges: Edges, start: u32, end: u32) -> Row
         requires { (start ≤ end) × (end ≤ 1024) }
         ensures edges { result.edges ≡ edges }

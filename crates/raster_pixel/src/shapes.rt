@@ -1,10 +1,10 @@
-// What an accepted draw draws.
-ghost use Rattle.std.specs.Prelude.{◌≡◌, true, ◌/◌, ◌<◌, ◌≤◌, length, IfSome};
+// What a draw draws.
+ghost use Rattle.std.specs.Prelude.{◌≡◌, ◌/◌, ◌<◌, length, IfSome};
 ghost use Rattle.std.proofs.Props.{props};
-ghost use Rattle.combiner_resolved.specs.Resolved.{Mixed};
 ghost use Rattle.raster_edges.specs.Limits.{TameTri};
 ghost use Rattle.raster_pixel.specs.declared.Geometry.TheVariants.{Triangles};
-ghost use Rattle.raster_pixel.specs.Admitted.{triangle_at, admitted_of};
+ghost use Rattle.raster_pixel.specs.Admitted.{triangle_at};
+ghost use Rattle.raster_pixel.specs.Near.{TrianglesNear};
 ghost use Rattle.raster_pixel.specs.SetUp.{set_up_by};
 
 use crate::lists::Lists;
@@ -14,7 +14,8 @@ use raster_edges::Tri;
 use raster_vertex::Vertex;
 use state::RenderMode;
 
-// As numbers 5 to 7 let it through.
+// Triangles near enough that nothing overflows, as those of a draw that number 7 lets through; or a rectangle, or nothing. What else an accepted draw has is said where it
+// is needed: the number of its pixels by one that counts them all, its colours by one that works them out.
 #[derive(Clone, Copy)]
 pub struct Shapes<'a> {
     pub mode: RenderMode,
@@ -22,9 +23,7 @@ pub struct Shapes<'a> {
     pub cull: bool,
     pub geometry: Geometry,
     pub lists: Lists<'a>,
-    pub ghost few: { length lists.indices.now ≤ 12288 },
-    pub ghost mixed: { Mixed combiner } by { Prim.hlevel props },
-    pub ghost admitted: { admitted_of combiner geometry lists.vertices.now lists.present.now lists.indices.now ≡ true },
+    pub ghost near: { geometry ≡ Triangles → TrianglesNear lists.vertices.now lists.present.now lists.indices.now } by { Prim.hlevel props },
 }
 
 impl Shapes<'_> {

@@ -37,7 +37,8 @@ impl Format {
     }
 }
 
-// `encode`'s two bytes, without a literal, of a pixel, or the first of numbers 8 to 10 that holds. An unknown coverage is passed as 0.
+// `encode`'s two bytes, without a literal, of a pixel, or the first of numbers 8 to 10 that holds. An unknown coverage is passed as 0. Frame and format stay two, here and in
+// words_run: one is what memory holds, and the other how it is written.
 #[tactic(auto, using(frame::proofs::Fits::seen_good, crate::proofs::Reading::supported_siz), unfolding(crate::specs::Read::read_answer, crate::specs::Read::read_refusal, crate::specs::Read::word_refusal, crate::specs::Read::word_of))]
 fn read(frame: &Frame, pixel: usize, format: Format) -> Result<Bytes2, Refusal>
     ensures answer { word_means result ≡ read_answer (args_of format pixel) frame.now.width frame.now.height (seen frame.now) }

@@ -95,12 +95,13 @@ impl<'a> Entries<'a> {
         self.numbers[i] = number;
     }
 
-    // The entries from `start` up to `end`, turned away with one number.
+    // The entries from `start` up to `end`, turned away with one number: none where they end before they start. Two numbers and no Range, as the loop over a run has them.
     pub fn fill(&mut self, start: usize, end: usize, refusal: Refusal)
-        requires { (start ≤ end) × (end ≤ length self.old.numbers.now) }
+        requires { end ≤ length self.old.numbers.now }
         ensures same { Same self.old self.new }
         ensures entries { WroteIn (λ (i : ℕ). refused_by (number_of refusal)) start end self.old self.new }
     {
+        let start = start.min(end);
         self.words[2 * start..2 * end].fill(0);
         self.numbers[start..end].fill(refusal.number());
     }
