@@ -1,6 +1,7 @@
 // The pixels that a draw emits, by number and sample mask alone: counted, and listed in two lent slices from one of them on. Nothing is drawn and no colour is worked
 // out; a run of full pixels is passed by its length. It is a walk of its own beside rasterize's: what the two have in common are loops of a few lines, and a row's
-// shades, runs by the paint, and the stop at the limit differ, so that one walk over a trait would have more in its trait than in common.
+// shades, runs by the paint, and the stop at the limit differ, so that one walk over a trait would have more in its trait than in common. No colour is asked for: a draw whose
+// combiner has none for some shade, or of any number of triangles, is counted like any other.
 #![tactic(auto)]
 
 ghost use Rattle.std.specs.Prelude.{◌≡◌};
@@ -39,7 +40,7 @@ fn list_rectangle(slots: &mut Slots, antialias: bool, sides: Sides)
     list_shape(slots, antialias, raster_rectangle::outline(sides));
 }
 
-// The pixels of an accepted draw: they are counted, and those that are asked for are in their slots.
+// The pixels of a draw: they are counted, and those that are asked for are in their slots. Slots and shapes stay two parameters: one is written, and the other only read.
 pub fn list_pixels(slots: &mut Slots, shapes: &Shapes)
     ensures { ListedIn (masks_as slots.old.view shapes.now) slots.old slots.new }
 {
