@@ -1,7 +1,8 @@
 // The single-pixel calls as a host makes them: each checks what number 11 (docs/RULES.md) names of its arguments.
 #![tactic(auto)]
 
-ghost use Rattle.std.specs.Prelude.{◌≡◌};
+ghost use Rattle.std.specs.Prelude.{◌≡◌, Ok, Err, if◌then◌else◌};
+ghost use Rattle.refused.specs.declared.Refusal.TheVariants.{Arguments};
 ghost use Rattle.writeback_pixel.specs.Refusal.{mask_ok, coverage_ok, known_ok, width_ok, siz_ok, place_ok, writer_ok, encode_ok};
 ghost use Rattle.writeback_pixel.specs.Calls.{destination_means, destination_call, answer_means, color_known_call, blend_means, blend_call, pack_color_means, pack_color_call, supported_call, pixel_bytes_means, pixel_bytes_call, encode_means, encode_call};
 
@@ -71,17 +72,21 @@ fn encode_ok(writer: Writer, coverage: u8, pixel: usize) -> bool
     writer_ok(writer) && coverage_ok(coverage) && place_ok(pixel)
 }
 
+// Number 11 where the arguments are not taken.
+fn taken(ok: bool) -> Result<(), Refusal>
+    ensures { result ≡ (if ok then Ok tt else Err Arguments) }
+{
+    ok.then_some(()).ok_or(Refusal::Arguments)
+}
+
 // The coverage that memory keeps after a pixel with the mask's samples over a coverage.
 #[tactic(auto, using(num_bits::proofs::Masks::ones_range), unfolding(crate::specs::Calls::destination_call, crate::specs::Refusal::checked))]
 pub fn destination(mode: RenderMode, mask: u8, memory: u8) -> Result<u8, Refusal>
     ensures { destination_means result ≡ destination_call mode mask memory }
 {
-    if mask_ok(mask) && coverage_ok(memory) {
-        let count = num_bits::ones(mask);
-        Ok(blender::destination(mode, count, memory))
-    } else {
-        Err(Refusal::Arguments)
-    }
+    taken(mask_ok(mask) && coverage_ok(memory))?;
+    let count = num_bits::ones(mask);
+    Ok(blender::destination(mode, count, memory))
 }
 
 // Whether a pixel's colour can be told from what is known of the memory under it.
@@ -95,12 +100,9 @@ pub fn color_known(
 ) -> Result<bool, Refusal>
     ensures { answer_means result ≡ color_known_call mode alpha mask coverage memory_rgb }
 {
-    if mask_ok(mask) && known_ok(coverage) {
-        let count = num_bits::ones(mask);
-        Ok(blender::color_known(mode, alpha, count, coverage, memory_rgb))
-    } else {
-        Err(Refusal::Arguments)
-    }
+    taken(mask_ok(mask) && known_ok(coverage))?;
+    let count = num_bits::ones(mask);
+    Ok(blender::color_known(mode, alpha, count, coverage, memory_rgb))
 }
 
 // The four bytes of a pixel blended with memory.
@@ -116,12 +118,9 @@ pub fn blend(
 ) -> Result<Rgba8, Refusal>
     ensures { blend_means result ≡ blend_call mode combiner rgba memory shade_alpha mask coverage }
 {
-    if mask_ok(mask) && coverage_ok(coverage) {
-        let count = num_bits::ones(mask);
-        Ok(blender::blend(mode, combiner, rgba, memory, shade_alpha, count, coverage))
-    } else {
-        Err(Refusal::Arguments)
-    }
+    taken(mask_ok(mask) && coverage_ok(coverage))?;
+    let count = num_bits::ones(mask);
+    Ok(blender::blend(mode, combiner, rgba, memory, shade_alpha, count, coverage))
 }
 
 // A colour as a 16-bit word.
@@ -129,11 +128,8 @@ pub fn blend(
 pub fn pack_color(rgba: Rgba8, coverage: u8, dither: u8) -> Result<u16, Refusal>
     ensures { pack_color_means result ≡ pack_color_call rgba coverage dither }
 {
-    if coverage_ok(coverage) {
-        Ok(words_pack::pack_color(rgba, coverage, dither))
-    } else {
-        Err(Refusal::Arguments)
-    }
+    taken(coverage_ok(coverage))?;
+    Ok(words_pack::pack_color(rgba, coverage, dither))
 }
 
 // Whether a writer's pixels can be encoded.
@@ -141,11 +137,8 @@ pub fn pack_color(rgba: Rgba8, coverage: u8, dither: u8) -> Result<u16, Refusal>
 pub fn supported(writer: Writer) -> Result<bool, Refusal>
     ensures { answer_means result ≡ supported_call writer }
 {
-    if writer_ok(writer) {
-        Ok(words_pack::supported(writer))
-    } else {
-        Err(Refusal::Arguments)
-    }
+    taken(writer_ok(writer))?;
+    Ok(words_pack::supported(writer))
 }
 
 // How many bytes a writer's pixel takes.
@@ -153,11 +146,8 @@ pub fn supported(writer: Writer) -> Result<bool, Refusal>
 pub fn pixel_bytes(writer: Writer) -> Result<usize, Refusal>
     ensures { pixel_bytes_means result ≡ pixel_bytes_call writer }
 {
-    if writer_ok(writer) {
-        Ok(words_pack::pixel_bytes(writer.layout))
-    } else {
-        Err(Refusal::Arguments)
-    }
+    taken(writer_ok(writer))?;
+    Ok(words_pack::pixel_bytes(writer.layout))
 }
 
 // The two bytes that a writer puts into memory for a pixel.
@@ -173,12 +163,6 @@ pub fn encode(
 ) -> Result<Bytes2, Refusal>
     ensures { encode_means result ≡ encode_call writer rgba coverage pixel literal rgb_dither encoding }
 {
-    if encode_ok(writer, coverage, pixel) {
-        let bytes = words_pack::encode(
-            writer, rgba, coverage, pixel, literal, rgb_dither, encoding,
-        );
-        Ok(bytes)
-    } else {
-        Err(Refusal::Arguments)
-    }
+    taken(encode_ok(writer, coverage, pixel))?;
+    Ok(words_pack::encode(writer, rgba, coverage, pixel, literal, rgb_dither, encoding))
 }
