@@ -14,7 +14,7 @@ fn color_is_shade(input: ColorIn) -> bool
 
 // raster_admitted's `is_shade` is the same comparison, under a definition of its own, which is to be believed.
 #[tactic(auto, unfolding(crate::specs::Shaded::shade_alpha, combiner_inputs::specs::Inputs::alpha_number))]
-fn alpha_is_shade(input: AlphaIn) -> bool
+pub fn alpha_is_shade(input: AlphaIn) -> bool
     ensures { result ≡ shade_alpha input }
 {
     input == AlphaIn::Shade

@@ -36,6 +36,8 @@ pub record ListedIn (es : List Masked) (before after : Slots) : Type 0 where
 
 -- zeros in the slots that no pixel has reached, and the rest as it was
 pub record Cleared (before after : Slots) : Type 0 where
+  pub view : after.view ≡ before.view
+  pub limit : after.limit ≡ before.limit
   pub first : after.first ≡ before.first
   pub count : after.count ≡ before.count
   pub pixels : after.pixels.ghost_name ≡ before.pixels.ghost_name

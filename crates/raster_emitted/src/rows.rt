@@ -7,7 +7,7 @@ ghost use Rattle.raster_emitted.specs.Listed.{ListedIn};
 
 use crate::slots::Slots;
 use raster_edges::Tri;
-use raster_pixel::row::Row;
+use raster_pixel::row::{self, Row};
 
 // Row y of a frame of this width, as far as a shape goes.
 #[derive(Clone, Copy)]
@@ -40,7 +40,7 @@ fn list_row(slots: &mut Slots, line: &Line, start: u32, end: u32)
     let mut x = start;
     // A step is a pixel or a run of them: no range has such steps.
     while x < end {
-        let next = line.row.part_end(true, x, end);
+        let next = row::part_end(true, line.row.full, x, end);
         list_part(slots, line, x, next);
         x = next;
     }

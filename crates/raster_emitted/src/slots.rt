@@ -72,7 +72,7 @@ fn counted(limit: u64, n: u64, more: u32) -> u64
 }
 
 // How many slots lie before the draw's n-th pixel, of those that there are.
-fn slots_before(first: u64, n: u64, slots: usize) -> usize
+pub fn slots_before(first: u64, n: u64, slots: usize) -> usize
     ensures { result ≡ min slots (n - first) }
 {
     n.saturating_sub(first).min(slots as u64) as usize

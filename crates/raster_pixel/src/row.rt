@@ -39,18 +39,18 @@ impl Row {
             raster_edges::mask(self.edges, x)
         }
     }
+}
 
-    // Where the part that starts at x ends: after pixel x, or after the run of full pixels where it starts.
-    pub fn part_end(&self, runs: bool, x: u32, end: u32) -> u32
-        requires { (x < end) × (self.now.full.end ≤ end) }
-        ensures within { (x < result) × (result ≤ end) }
-        ensures run { x + 1 < result → (runs ≡ true) × (self.now.full.start ≤ x) × (result ≤ self.now.full.end) }
-    {
-        let next = x + 1;
-        if runs && x == self.full.start && next < self.full.end {
-            self.full.end
-        } else {
-            next
-        }
+// Where the part of a row that starts at x ends: after pixel x, or after the run of full pixels where it starts. It asks nothing of these pixels, so that it is no method of Row.
+pub fn part_end(runs: bool, full: Range, x: u32, end: u32) -> u32
+    requires { (x < end) × (full.end ≤ end) }
+    ensures within { (x < result) × (result ≤ end) }
+    ensures run { x + 1 < result → (runs ≡ true) × (full.start ≤ x) × (result ≤ full.end) }
+{
+    let next = x + 1;
+    if runs && x == full.start && next < full.end {
+        full.end
+    } else {
+        next
     }
 }
