@@ -26,7 +26,7 @@ use Rattle.raster_pixel.specs.Parts.{from}
 use Rattle.raster_pixel.proofs.Loops.{Going, going_start, going_more, going_done}
 use Rattle.frame.specs.Frame.{Frame, pixel_at, put_pixel}
 use Rattle.frame.specs.Fits.{Fit, with_colors, with_coverage, colors_at, colors_if, stored_at}
-use Rattle.frame_paint.specs.declared.prepare.Paint.{Paint}
+use Rattle.frame_paint.specs.declared.paint.Paint.{Paint}
 use Rattle.frame_paint.specs.Steps.{source_of, step_frame}
 use Rattle.frame_paint.specs.Pixel.{Drew, emit_of}
 use Rattle.frame_paint.specs.Row.{full_pixel, filled_at}

@@ -9,14 +9,13 @@ use Rattle.std.specs.Prelude.{Option, Some, None}
 use Rattle.raster_edges.specs.declared.Edges.{Edges}
 use Rattle.raster_edges.specs.Sample.{mask_of}
 use Rattle.raster_vertex.specs.declared.row.ShadeRow.{ShadeRow}
-use Rattle.raster_pixel.specs.declared.Fragment.{Fragment}
 use Rattle.raster_pixel.specs.Emitted.{shown, emits}
 use Rattle.raster_pixel.specs.Parts.{from}
 use Rattle.raster_pixel.specs.declared.row.Row.{Row}
 use Rattle.raster_pixel.proofs.Counts.{emits_most}
 use Rattle.raster_pixel.proofs.Parts.{parts_bound, from_one, from_same, from_shift}
 use Rattle.frame_paint.specs.declared.Target.{Target}
-use Rattle.frame_paint.specs.declared.prepare.Paint.{Paint}
+use Rattle.frame_paint.specs.declared.paint.Paint.{Paint}
 use Rattle.frame_paint.specs.Target.{seen, SameLoans}
 use Rattle.frame_paint.specs.Pixel.{Drew, DrewOn}
 use Rattle.frame_paint.specs.Row.{painted, fragment_of, row_at, full_pixel, Runs}

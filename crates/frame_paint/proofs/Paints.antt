@@ -30,7 +30,7 @@ use Rattle.std.proofs.lemmas.Bool.{not-true, and_parts}
 use Rattle.frame_pixel.proofs.Colorings.{opaque_step, unshaded_step}
 use Rattle.num_bits.specs.Ones.{ones_of}
 use Rattle.frame.specs.Frame.{Frame, pixel_at, put_pixel}
-use Rattle.frame_paint.specs.declared.prepare.Paint.{Paint}
+use Rattle.frame_paint.specs.declared.paint.Paint.{Paint}
 use Rattle.frame_paint.specs.Steps.{step_frame}
 use Rattle.frame_paint.specs.Pixel.{emit_of}
 use Rattle.frame_paint.specs.Paint.{Own}

@@ -13,7 +13,7 @@ use Rattle.raster_vertex.specs.Row.{shade_on}
 use Rattle.raster_pixel.specs.declared.Fragment.{Fragment}
 use Rattle.raster_pixel.specs.Emitted.{Emit, shown, emits}
 use Rattle.frame.specs.Frame.{Frame, pixel_at, put_pixel}
-use Rattle.frame_paint.specs.declared.prepare.Paint.{Paint}
+use Rattle.frame_paint.specs.declared.paint.Paint.{Paint}
 use Rattle.frame_paint.specs.Pixel.{emit_of}
 
 -- a pixel x with these samples: in the colour of its shade; or, without shades, in the paint's own, with 1.0 for the shade's alpha

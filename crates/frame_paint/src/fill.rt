@@ -9,7 +9,7 @@ ghost use Rattle.frame.specs.Loads.{ColorThere};
 ghost use Rattle.frame_paint.specs.Pixel.{Drew};
 ghost use Rattle.frame_paint.specs.Row.{filled_at, full_pixel};
 
-use crate::prepare::Paint;
+use crate::paint::Paint;
 use frame_pixel::Colors;
 use frame_pixel::full::{FULL_COVERAGE, Full};
 

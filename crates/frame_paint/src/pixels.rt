@@ -1,12 +1,16 @@
 // One emitted pixel on the frame: F1 to F5 on what is known of it.
-ghost use Rattle.std.specs.Prelude.{◌≡◌, ◌*◌, ◌<◌, ◌≤◌, Some};
+ghost use Rattle.std.specs.Prelude.{◌≡◌, ◌<◌, ◌≤◌, length, Some};
 ghost use Rattle.raster_pixel.specs.Emitted.{emits};
 ghost use Rattle.frame_paint.specs.Pixel.{DrewOn, fragment_source};
+ghost use Rattle.frame_paint.specs.Paint.{Own};
 
 use crate::Target;
-use crate::prepare::Paint;
+use crate::paint::coloring_of;
 use blender::Source;
+use combiner::Combiner;
+use frame_pixel::Colors;
 use raster_pixel::Fragment;
+use state::RenderMode;
 
 // What the rules look at of an emitted pixel.
 #[tactic(auto, using(num_bits::proofs::Masks::ones_range))]
@@ -22,21 +26,23 @@ pub fn fragment_source(fragment: Fragment) -> Source
     }
 }
 
-// F1 to F5 at a pixel's place. What is known ahead of it is asked after the bytes are read: so it goes through no memory. Target and paint stay two parameters: one is written, and
-// the other only read. That the mask is not 0 is a clause, since the definitions to be believed build a Fragment of any mask.
-pub fn draw_pixel(target: &mut Target, paint: &Paint, fragment: Fragment, pixel: usize)
+// F1 to F5 at a pixel's place. What is known ahead of it is asked after the bytes are read: so it goes through no memory. It takes these parts of a paint and no paint, since it
+// asks nothing else of one. That the mask is not 0 is a clause, since the definitions to be believed build a Fragment of any mask.
+pub fn draw_pixel(
+    target: &mut Target,
+    mode: RenderMode,
+    combiner: Combiner,
+    own: Option<Colors>,
+    fragment: Fragment,
+    pixel: usize,
+)
     requires mask_nonzero { 0 < fragment.mask }
-    requires pixel_in_bounds { pixel < target.old.view.width * target.old.view.height }
-    ensures { DrewOn paint.now.mode paint.now.combiner (emits (Some fragment) pixel) target.old target.new 1 }
+    requires pixel_in_bounds { pixel < length target.old.marks.now }
+    requires own { Own mode combiner own }
+    ensures { DrewOn mode combiner (emits (Some fragment) pixel) target.old target.new 1 }
 {
     let before = target.known_pixel(pixel);
-    let coloring = paint.coloring(fragment.color);
-    let after = frame_pixel::step(
-        paint.mode,
-        paint.combiner,
-        fragment_source(fragment),
-        coloring,
-        before,
-    );
+    let coloring = coloring_of(mode, combiner, own, fragment.color);
+    let after = frame_pixel::step(mode, combiner, fragment_source(fragment), coloring, before);
     target.put_pixel(pixel, after);
 }

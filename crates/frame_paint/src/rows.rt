@@ -7,8 +7,8 @@ ghost use Rattle.frame_paint.specs.Row.{fragment_of, row_at, Runs};
 
 use crate::Target;
 use crate::fill::fill_run;
+use crate::paint::Paint;
 use crate::pixels::draw_pixel;
-use crate::prepare::Paint;
 use raster_edges::Edges;
 use raster_pixel::Fragment;
 use raster_pixel::row::Row;
@@ -55,7 +55,14 @@ fn row_pixel(
         return 0;
     };
     let pixel = y * target.view.width + x;
-    draw_pixel(target, paint, fragment, pixel as usize);
+    draw_pixel(
+        target,
+        paint.mode,
+        paint.combiner,
+        paint.own,
+        fragment,
+        pixel as usize,
+    );
     1
 }
 
@@ -89,7 +96,8 @@ fn draw_part(
     row_pixel(target, paint, shades, mask, y, x)
 }
 
-// The pixels of row y from start up to end: by their shades, or, without shades, all of the paint's own colour.
+// The pixels of row y from start up to end: by their shades, or, without shades, all of the paint's own colour. Two numbers and no Range, since no Range says that it does not
+// end before it starts.
 pub fn draw_row(
     target: &mut Target,
     paint: &Paint,
