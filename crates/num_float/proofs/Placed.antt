@@ -1,14 +1,14 @@
 -- An `f64` from 2 ^ 26 up to 2 ^ 27 has 2 ^ -26 for its last digit: the bits of its pattern from the 26th up are its whole part, and 1048 * 2 ^ 26 more.
 -- A coarse value from 0 to 2 ^ 17 (`Coarse`; an `f32` is one, and four times an `f32`) that is added to 2 ^ 26, or to 2 ^ 26 + 1 / 2, gets there without a change of the whole part: from 1 / 8 up
 -- the sum is exact, and below that it is rounded to less than 2 ^ 26 + 1. Assumes nothing.
-use mathlib.Core.Path.{◌≡◌, sym, ap, ◌∙◌, subst}
+use mathlib.Core.Path.{◌≡◌, refl, sym, ap, ◌∙◌, subst}
 use mathlib.Core.Logic.{◌⊎◌, inl, inr}
 use Prim.Native.Nat.compare
 use Prim.Native.Nat.{ℕ, zero, suc, ◌+◌, ◌-◌, ◌*◌, ◌/◌, ◌%◌, ◌^◌, ◌≤◌, ◌<◌, compare, Ordering}
 use native.Mathlib.Nat.{le_trans, le_of_eq, le_antisymm, lt_of_lt_of_le, lt_of_not-le, not-le_of_lt, mul-one, mul_comm, mul_assoc, mul_left_comm, mul_right_comm, mul-pos, mul-le-mul_right, mul-lt-mul_of_pos_right, mul-div_cancel, mul-mod_left, div-eq_of_lt-le, le-div_iff_mul-le, div-lt_iff_lt-mul, lt_of_mul-lt-mul_right, lt_irrefl, zero-mul, eq_of_mul-eq-mul_right, add-mul, add-mul-div_right}
 use native.Mathlib.Omega.{arith}
 use mathlib.Core.Bool.{Bool, true, false, not, ◌&&◌, true≢false}
-use lib.IntN.{pos, negsuc}
+use lib.IntN.{ℤ, pos, negsuc}
 use lib.Dec.{T, leb, leb→le, nleb→lt, lit≤}
 use lib.Pow.{pow-add, pow_pos, pow_mono, shl_lt, shl-shr}
 use lib.Ieee.{Float, nan, inf, fin, binary32, binary64, up, down, size, nearest, round, add, fits, is_nan, to_bits}
@@ -58,8 +58,19 @@ exactly x c q C e =
     above_zero zero h = absurd (lt_irrefl 0 h)
     above_zero (suc u) h = compare.zero-suc u
 
--- ---- a / c from 2 ^ 26 up to 2 ^ 27, rounded to a multiple W of 2 ^ -26
-module _ (a c : ℕ) (C : 0 < c) (lo : 2 ^ 26 * c ≤ a) (hi : a < 2 ^ 27 * c) where
+-- what the bits show of w: the whole number n
+abbrev pub Shows : Float → ℕ → Type 0
+Shows w n = T (not (is_nan w)) × (to_bits binary64 w / 2 ^ 26 % 2 ^ 26 ≡ n)
+
+-- ---- a / c, which is 2 ^ 26 + d / c, rounded to a multiple W of 2 ^ -26
+-- its whole part is kept where d / c is a multiple of 2 ^ -26, or so far below 1 that no rounding reaches 1
+module _ (a d c : ℕ) (C : 0 < c) (sum : a ≡ d + 2 ^ 26 * c) (most : d ≤ 131073 * c) (clear : ((q : ℕ) × (d * 2 ^ 26 ≡ q * c)) ⊎ (d * 8 < 5 * c)) where
+  lo : 2 ^ 26 * c ≤ a
+  lo = omega arith
+
+  hi : a < 2 ^ 27 * c
+  hi = omega arith
+
   abbrev n : ℕ
   n = a * 2 ^ 1074
 
@@ -96,26 +107,26 @@ module _ (a c : ℕ) (C : 0 < c) (lo : 2 ^ 26 * c ≤ a) (hi : a < 2 ^ 27 * c) w
       subst (λ (x : ℕ). HasValue (round binary64 false a c) false x (2 ^ 1074)) grid_is
       (round_val binary64 a c (subst (λ (x : ℕ). x < 2 ^ (1074 + 1024)) (sym grid_is) (lt_of_lt_of_le (shl_lt 53 1048 h) (pow_mono l))))
 
-  -- what keeps the whole part: a / c is a multiple of 2 ^ -26, or so far below 2 ^ 26 + 1 that no rounding reaches it
-  abbrev Clear : Type 0
-  Clear = ((q : ℕ) × (a * 2 ^ 26 ≡ q * c)) ⊎ (a * 2 ^ 26 + c < 4503599694479360 * c)
+  kept_whole : (W < 2 ^ 53) × (W / 2 ^ 26 ≡ a / c)
+  kept_whole = elim clear [
+    | inl (q, i) ↦
+        let e : a * 2 ^ 26 ≡ (q + 4503599627370496) * c = omega (arith, add-mul q 4503599627370496 c) in
+        let is : W ≡ q + 4503599627370496 = exactly (a * 2 ^ 26) c (q + 4503599627370496) C e in
+        (subst (λ (x : ℕ). x < 2 ^ 53) (sym is) (lt_of_mul-lt-mul_right c (omega arith)), ap (λ (x : ℕ). x / 2 ^ 26) is ∙ div_same (q + 4503599627370496) (2 ^ 26) a c (pow_pos 26) C (sym e))
+    | inr g ↦
+        let m : W ≤ suc (a * 2 ^ 26 / c) = nearest-le (a * 2 ^ 26 / c) (compare (a * 2 ^ 26 % c * 2) c) in
+        let k : a * 2 ^ 26 / c < 4503599694479359 = (div-lt_iff_lt-mul C).1 (omega arith) in
+        let w : a / c ≡ 67108864 = div-eq_of_lt-le c (omega arith) (omega arith) in
+        let l = W-ge in
+        (omega arith, omega arith)
+  ]
 
-  kept_whole : Clear → (W < 2 ^ 53) × (W / 2 ^ 26 ≡ a / c)
-  kept_whole (inl (q, e)) =
-      let is : W ≡ q = exactly (a * 2 ^ 26) c q C e in
-      (subst (λ (x : ℕ). x < 2 ^ 53) (sym is) (lt_of_mul-lt-mul_right c (omega arith)), ap (λ (x : ℕ). x / 2 ^ 26) is ∙ div_same q (2 ^ 26) a c (pow_pos 26) C (sym e))
-  kept_whole (inr h) =
-      let m : W ≤ suc (a * 2 ^ 26 / c) = nearest-le (a * 2 ^ 26 / c) (compare (a * 2 ^ 26 % c * 2) c) in
-      let g : a * 2 ^ 26 / c < 4503599694479359 = (div-lt_iff_lt-mul C).1 (omega arith) in
-      let w : a / c ≡ 67108864 = div-eq_of_lt-le c (omega arith) (omega arith) in
-      let l = W-ge in
-      (omega arith, omega arith)
-
-  shown : Clear → T (not (is_nan (round binary64 false a c))) × (to_bits binary64 (round binary64 false a c) / 2 ^ 26 % 2 ^ 26 + 2 ^ 26 ≡ a / c)
-  shown h =
-      let k = kept_whole h in
+  shown : Shows (round binary64 false a c) (d / c)
+  shown =
+      let k = kept_whole in
       let v = value k.0 in
       let b = pattern (round binary64 false a c) W v W-ge k.0 in
+      let q : a / c ≡ d / c + 67108864 = ap (λ (x : ℕ). x / c) sum ∙ add-mul-div_right d 67108864 C in
       let l = W-ge in
       (number (round binary64 false a c) (W * 2 ^ 1048) (2 ^ 1074) v, omega arith)
 
@@ -164,53 +175,27 @@ widens y a c t v = and_i (fits binary64 y) (not (is_nan y)) (fits_widens y t) (n
 abbrev pub LowCoarse : Float → Type 0
 LowCoarse y = HasValue y false (num y) (den y) × ((num y ≤ 131072 * den y) × Coarse (num y) (den y))
 
--- what the bits show of w: the whole number n
-abbrev pub Shows : Float → ℕ → Type 0
-Shows w n = T (not (is_nan w)) × (to_bits binary64 w / 2 ^ 26 % 2 ^ 26 ≡ n)
+-- y + k * 2 ^ f, before it is rounded
+sum_is : (y : Float) (k : ℕ) (f : ℤ) → HasValue y false (num y) (den y) → add binary64 y (fin false k f) ≡ round binary64 false (num y * down f + k * up f * den y) (den y * down f)
+unfolding add
+sum_is nan k f v = absurd v
+sum_is (inf s) k f v = absurd v
+sum_is (fin true m e) k f v = absurd (true≢false v.0)
+sum_is (fin false m e) k f v = refl
 
 -- y + 2 ^ 26 + 1 / 2
 pub near_shown : (y : Float) → LowCoarse y → Shows (add binary64 y (fin false 134217729 (negsuc 0))) (near (num y) (den y))
-unfolding add
-near_shown nan l = absurd l.0
-near_shown (inf s) l = absurd l.0
-near_shown (fin true m e) l = absurd (true≢false l.0.0)
-near_shown (fin false m e) l =
+near_shown y l =
+    let P = den_pos y in
     let h = l.1.0 in
-    let N = m * up e in
-    let D = down e in
-    let P : 0 < D = down_pos e in
-    let a = N * 2 + 134217729 * D in
-    let clear : Clear a (D * 2) (omega arith) (omega arith) (omega arith) = elim l.1.1 [
-      | inl (q, i) ↦
-          let z : (q + 4503599660924928) * D ≡ q * D + 4503599660924928 * D = add-mul q 4503599660924928 D in
-          inl (q + 4503599660924928, omega (arith, mul_assoc (q + 4503599660924928) D 2))
-      | inr g ↦ inr (omega arith)
-    ] in
-    let parts : a ≡ N * 2 + D + 67108864 * (D * 2) = omega arith in
-    let q : a / (D * 2) ≡ (N * 2 + D) / (D * 2) + 67108864 = ap (λ (k : ℕ). k / (D * 2)) parts ∙ add-mul-div_right (N * 2 + D) 67108864 (omega arith) in
-    let r = shown a (D * 2) (omega arith) (omega arith) (omega arith) clear in
-    (r.0, omega arith)
+    rw (sum_is y 134217729 (negsuc 0) l.0)
+    (shown (num y * 2 + 134217729 * den y) (num y * 2 + den y) (den y * 2) (omega arith) (omega arith) (omega arith)
+    (elim l.1.1 [ inl (q, i) ↦ inl (q + 33554432, omega (arith, add-mul q 33554432 (den y), mul_assoc (q + 33554432) (den y) 2)) | inr g ↦ inr (omega arith) ]))
 
 -- y + 2 ^ 26
 pub floor_shown : (y : Float) → LowCoarse y → Shows (add binary64 y (fin false 1 (pos 26))) (floor (num y) (den y))
-unfolding add
-floor_shown nan l = absurd l.0
-floor_shown (inf s) l = absurd l.0
-floor_shown (fin true m e) l = absurd (true≢false l.0.0)
-floor_shown (fin false m e) l =
+floor_shown y l =
     let h = l.1.0 in
-    let N = m * up e in
-    let D = down e in
-    let P : 0 < D = down_pos e in
-    let a = N * 1 + 67108864 * D in
-    let clear : Clear a (D * 1) (omega arith) (omega arith) (omega arith) = elim l.1.1 [
-      | inl (q, i) ↦
-          let z : (q + 4503599627370496) * D ≡ q * D + 4503599627370496 * D = add-mul q 4503599627370496 D in
-          inl (q + 4503599627370496, omega (arith, mul_assoc (q + 4503599627370496) D 1))
-      | inr g ↦ inr (omega arith)
-    ] in
-    let parts : a ≡ N + 67108864 * (D * 1) = omega arith in
-    let q : a / (D * 1) ≡ N / (D * 1) + 67108864 = ap (λ (k : ℕ). k / (D * 1)) parts ∙ add-mul-div_right N 67108864 (omega arith) in
-    let one : N / (D * 1) ≡ N / D = ap (λ (k : ℕ). N / k) (mul-one D) in
-    let r = shown a (D * 1) (omega arith) (omega arith) (omega arith) clear in
-    (r.0, omega arith)
+    rw (sum_is y 1 (pos 26) l.0, mul-one (den y))
+    (shown (num y * 1 + 67108864 * den y) (num y) (den y) (den_pos y) (omega arith) (omega arith)
+    (elim l.1.1 [ inl p ↦ inl p | inr g ↦ inr (omega arith) ]))
