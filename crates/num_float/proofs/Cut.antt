@@ -1,7 +1,7 @@
 -- A float's whole part, from its value, `whole` from the tests y > 0.0 and y < 2 ^ k, and the three roundings of a fraction. Assumes nothing.
 use mathlib.Core.Path.{◌≡◌, refl, sym, ap, ◌∙◌, subst}
 use Prim.Native.Nat.{ℕ, ◌+◌, ◌-◌, ◌*◌, ◌/◌, ◌^◌, ◌≤◌, ◌<◌, min}
-use native.Mathlib.Nat.{zero-mul, mul-one, mul_assoc, mul_comm, one-mul, mul_right_comm, add-mul, lt-div-mul-add, div-mul-le_self, div-eq_of_lt-le, mul-lt-mul_of_pos_right, lt_of_mul-lt-mul_right, lt_of_lt_of_le, le_trans, le_of_eq, div-lt_iff_lt-mul, div-le_of_le-mul, div-div-eq-div-mul, add-div_right, div-eq_of_lt, le-div_iff_mul-le}
+use native.Mathlib.Nat.{zero-mul, mul-one, mul_assoc, mul_comm, one-mul, mul_right_comm, add-mul, lt-div-mul-add, div-mul-le_self, mul-lt-mul_of_pos_right, lt_of_mul-lt-mul_right, lt_of_lt_of_le, le_trans, le_of_eq, div-lt_iff_lt-mul, div-le_of_le-mul, div-div-eq-div-mul, add-div_right, div-eq_of_lt, le-div_iff_mul-le}
 use native.Mathlib.Omega.{arith}
 use mathlib.Core.Bool.{true, false, true≢false}
 use borrow.Author.Tests.{ltb-true, ltb-false}
@@ -98,11 +98,8 @@ pub ceil_more : (a b : ℕ) → 0 < b → a / b * b < a → ceil a b ≡ a / b +
 ceil_more a b B h =
     let l : a < a / b * b + b = lt-div-mul-add B in
     let s : (a / b + 1) * b ≡ a / b * b + 1 * b = add-mul (a / b) 1 b in
-    let t : (a / b + 1 + 1) * b ≡ (a / b + 1) * b + 1 * b = add-mul (a / b + 1) 1 b in
-    div-eq_of_lt-le b (omega arith) (omega arith)
+    let hi : a / b + 1 ≤ ceil a b = (le-div_iff_mul-le B).1 (omega arith) in
+    omega (arith, ceil_below (a / b + 1) a b B (omega arith))
 
 pub ceil_same : (a b : ℕ) → 0 < b → a ≤ a / b * b → ceil a b ≡ a / b
-ceil_same a b B h =
-    let l : a / b * b ≤ a = div-mul-le_self a b in
-    let s : (a / b + 1) * b ≡ a / b * b + 1 * b = add-mul (a / b) 1 b in
-    div-eq_of_lt-le b (omega arith) (omega arith)
+ceil_same a b B h = omega (arith, ceil_below (a / b) a b B h, ceil_all (a / b) a b B (div-mul-le_self a b))
