@@ -62,21 +62,15 @@ module _ (g : ℕ → ℕ → ℕ) (none : (b : ℕ) → 0 < b → g 0 b ≡ 0) 
   index (fin true m e) = record { value = (refl, refl); bounded = omega arith; is = none_1 }
   index (fin false m e) = over m e (ltb (0 * down e) (m * up e * 1)) (ltb-false (0 * down e) (m * up e * 1))
 
-floor-index : (x : Float) → Index floor x (clip x)
-floor-index = index floor floor_none floor_all floor_below
-
-ceil-index : (x : Float) → Index ceil x (clip x)
-ceil-index = index ceil ceil_none ceil_all ceil_below
-
--- the same of y, which is x cut off by the two selects in turn
-cut_off : (g : ℕ → ℕ → ℕ) (x z y : Float) → Index g x (clip x) → z ≡ above0 x → y ≡ upto (top 17) z → Index g x y
-cut_off g x z y i p q = subst (Index g x) (sym (q ∙ ap (λ (v : Float). upto (top 17) v) p)) i
+  -- the same of y, which is x cut off by the two selects in turn
+  cut_off : {x z y : Float} → z ≡ above0 x → y ≡ upto (top 17) z → Index g x y
+  cut_off {x} p q = subst (Index g x) (sym (q ∙ ap (λ (v : Float). upto (top 17) v) p)) (index x)
 
 pub floor_cut : {x z y : Float} → z ≡ above0 x → y ≡ upto (top 17) z → Index floor x y
-floor_cut {x = x} {z = z} {y = y} p q = cut_off floor x z y (floor-index x) p q
+floor_cut p q = cut_off floor floor_none floor_all floor_below p q
 
 pub ceil_cut : {x z y : Float} → z ≡ above0 x → y ≡ upto (top 17) z → Index ceil x y
-ceil_cut {x = x} {z = z} {y = y} p q = cut_off ceil x z y (ceil-index x) p q
+ceil_cut p q = cut_off ceil ceil_none ceil_all ceil_below p q
 
 -- ---- the ceiling, by whether the whole part is below
 -- w is the whole number n, and what w < x says
