@@ -1,7 +1,7 @@
--- A float cut off at 0 and at 2 ^ k, with 0 for a NaN, as two selects do it; and `byte_of` by way of it. Assumes nothing.
-use mathlib.Core.Path.{◌≡◌, refl, sym, ap, ◌∙◌, subst}
+-- A float cut off at 0 and at 2 ^ k, with 0 for a NaN, as two selects do it. Assumes nothing.
+use mathlib.Core.Path.{◌≡◌, refl, sym, ap, subst}
 use Prim.Native.Nat.{ℕ, ◌*◌, ◌^◌, ◌≤◌, ◌<◌, min}
-use native.Mathlib.Nat.{zero-mul, mul-one, one-mul}
+use native.Mathlib.Nat.{zero-mul, mul-one, one-mul, le_of_lt}
 use native.Mathlib.Omega.{arith}
 use mathlib.Core.Bool.{Bool, true, false, cond}
 use borrow.Author.Tests.{ltb-true, ltb-false}
@@ -43,27 +43,22 @@ module _ (k m : ℕ) (e : ℤ) where
   abbrev D : ℕ
   D = down e
 
-  abbrev Cut : Float → Type 0
-  Cut z = HasValue z false (min N (2 ^ k * D)) D
-
-  in_top : (b : Bool) → (b ≡ true → N * 1 < 1 * 2 ^ k * D) → (b ≡ false → 1 * 2 ^ k * D ≤ N * 1) → Cut (cond b (fin false m e) (top k))
-  in_top true p q =
-      let h : N < 2 ^ k * D = simp (mul-one, one-mul) at (p refl) in
-      let is : N ≡ min N (2 ^ k * D) = omega arith in
-      (refl, ap (λ (x : ℕ). x * D) is)
-  in_top false p q =
-      let h : 2 ^ k * D ≤ N = simp (mul-one, one-mul) at (q refl) in
-      let is : 2 ^ k * D ≡ min N (2 ^ k * D) = omega arith in
-      (refl, ap (λ (x : ℕ). x * D) (one-mul (2 ^ k)) ∙ is ∙ sym (mul-one (min N (2 ^ k * D))))
-
-  above : (b : Bool) → (b ≡ false → N * 1 ≤ 0 * D) → Cut (upto (top k) (cond b (fin false m e) f0))
+  -- what holds of what is left, by whether that is n / d, 2 ^ k or 0
+  pub left : (P : Float → Type 0) → (N ≤ 2 ^ k * D → P (fin false m e)) → (2 ^ k * D ≤ N → P (top k)) → (N ≡ 0 → P f0) → P (upto (top k) (above0 (fin false m e)))
   unfolding lt
-  above true q = in_top (ltb (N * 1) (1 * 2 ^ k * D)) (ltb-true (N * 1) (1 * 2 ^ k * D)) (ltb-false (N * 1) (1 * 2 ^ k * D))
-  above false q =
-      let z : N ≡ 0 = omega (arith, q refl, zero-mul D) in
-      let is : min N (2 ^ k * D) ≡ 0 = omega arith in
-      subst Cut (sym (none k)) (refl, zero-mul D ∙ sym (ap (λ (x : ℕ). x * 1) is))
+  left P own most nil = above (ltb (0 * D) (N * 1)) (ltb-false (0 * D) (N * 1))
+    where
+      in_top : (b : Bool) → (b ≡ true → N * 1 < 1 * 2 ^ k * D) → (b ≡ false → 1 * 2 ^ k * D ≤ N * 1) → P (cond b (fin false m e) (top k))
+      in_top true p q = own (le_of_lt (simp (mul-one, one-mul) at (p refl)))
+      in_top false p q = most (simp (mul-one, one-mul) at (q refl))
 
-  pub clipped : Cut (upto (top k) (above0 (fin false m e)))
-  unfolding lt
-  clipped = above (ltb (0 * D) (N * 1)) (ltb-false (0 * D) (N * 1))
+      above : (b : Bool) → (b ≡ false → N * 1 ≤ 0 * D) → P (upto (top k) (cond b (fin false m e) f0))
+      above true q = in_top (ltb (N * 1) (1 * 2 ^ k * D)) (ltb-true (N * 1) (1 * 2 ^ k * D)) (ltb-false (N * 1) (1 * 2 ^ k * D))
+      above false q = subst P (sym (none k)) (nil (omega (arith, q refl, zero-mul D)))
+
+  pub clipped : HasValue (upto (top k) (above0 (fin false m e))) false (min N (2 ^ k * D)) D
+  clipped =
+      left (λ (z : Float). HasValue z false (min N (2 ^ k * D)) D)
+      (λ h. (refl, ap (λ (x : ℕ). x * D) (omega arith)))
+      (λ h. (refl, omega (arith, mul-one (min N (2 ^ k * D)), one-mul (2 ^ k))))
+      (λ z. (refl, omega (arith, zero-mul D)))

@@ -1,21 +1,19 @@
 -- `whole` by way of a float that is cut off at 0 and 2 ^ 17 by two selects, for a rounding that keeps whole numbers; and the ceiling from the floor. Assumes nothing.
 use mathlib.Core.Path.{◌≡◌, refl, sym, ap, ◌∙◌, subst}
 use Prim.Native.Nat.{ℕ, ◌+◌, ◌*◌, ◌/◌, ◌≤◌, ◌<◌}
-use native.Mathlib.Nat.{zero-mul, mul-one, mul_right_comm, le_of_mul-le-mul_right, lt_of_mul-lt-mul_right}
+use native.Mathlib.Nat.{mul-one, mul_right_comm, le_of_mul-le-mul_right, lt_of_mul-lt-mul_right}
 use native.Mathlib.Omega.{arith}
-use mathlib.Core.Bool.{Bool, true, false, cond, true≢false}
+use mathlib.Core.Bool.{true, false, true≢false}
 use borrow.Author.Tests.{ltb-true, ltb-false}
-use lib.IntN.{ℤ, pos}
-use lib.Dec.{ltb}
+use lib.IntN.{pos}
 use lib.Ieee.{Float, nan, inf, fin, binary32, up, down, lt, round, of_int}
 use lib.Ieee.Fits.{down_pos}
 use lib.Ieee.Exact.{HasValue}
 use lib.Ieee.Back.{round_whole}
 use lib.Ieee.Positive.{num, den, den_pos}
-use Rattle.num_float.specs.Color.{f0}
 use Rattle.num_float.specs.Whole.{whole, floor, ceil}
 use Rattle.num_float.proofs.Cut.{floor_none, floor_all, floor_below, ceil_none, ceil_all, ceil_below, ceil_more, ceil_same}
-use Rattle.num_float.proofs.Clipped.{above0, upto, top}
+use Rattle.num_float.proofs.Clipped.{above0, upto, top, left}
 
 -- x cut off
 abbrev pub clip : Float → Float
@@ -37,30 +35,18 @@ module _ (g : ℕ → ℕ → ℕ) (none : (b : ℕ) → 0 < b → g 0 b ≡ 0) 
       let hi : g 131072 1 ≤ 131072 = most 131072 131072 1 (omega arith) (omega arith) in
       omega arith
 
-  under : (m : ℕ) (e : ℤ) (b : Bool) → (b ≡ true → m * up e * 1 < 131072 * down e) → (b ≡ false → 131072 * down e ≤ m * up e * 1) → Index g (fin false m e) (cond b (fin false m e) (top 17))
-  under m e true p q =
-      let l : m * up e ≤ 131072 * down e = omega (arith, p refl) in
-      let hi : g (m * up e) (down e) ≤ 131072 = most 131072 (m * up e) (down e) (down_pos e) l in
-      record { value = (refl, refl); bounded = l; is = omega arith }
-  under m e false p q =
-      let lo : 131072 ≤ g (m * up e) (down e) = all 131072 (m * up e) (down e) (down_pos e) (omega (arith, q refl)) in
-      record { value = (refl, refl); bounded = omega arith; is = omega (arith, all_1) }
-
-  over : (m : ℕ) (e : ℤ) (b : Bool) → (b ≡ false → m * up e * 1 ≤ 0 * down e) → Index g (fin false m e) (upto (top 17) (cond b (fin false m e) f0))
-  unfolding lt
-  over m e true q = under m e (ltb (m * up e * 1) (131072 * down e)) (ltb-true (m * up e * 1) (131072 * down e)) (ltb-false (m * up e * 1) (131072 * down e))
-  over m e false q =
-      let z : m * up e ≡ 0 = omega (arith, q refl, zero-mul (down e)) in
-      let is : g (m * up e) (down e) ≡ 0 = ap (λ (x : ℕ). g x (down e)) z ∙ none (down e) (down_pos e) in
-      record { value = (refl, refl); bounded = omega arith; is = omega (arith, none_1) }
-
   index : (x : Float) → Index g x (clip x)
   unfolding lt
   index nan = record { value = (refl, refl); bounded = omega arith; is = none_1 }
   index (inf true) = record { value = (refl, refl); bounded = omega arith; is = none_1 }
   index (inf false) = record { value = (refl, refl); bounded = omega arith; is = all_1 }
   index (fin true m e) = record { value = (refl, refl); bounded = omega arith; is = none_1 }
-  index (fin false m e) = over m e (ltb (0 * down e) (m * up e * 1)) (ltb-false (0 * down e) (m * up e * 1))
+  index (fin false m e) =
+      let P = down_pos e in
+      left 17 m e (Index g (fin false m e))
+      (λ l. record { value = (refl, refl); bounded = l; is = omega (arith, most 131072 (m * up e) (down e) P l) })
+      (λ l. record { value = (refl, refl); bounded = omega arith; is = omega (arith, all_1, all 131072 (m * up e) (down e) P l) })
+      (λ z. record { value = (refl, refl); bounded = omega arith; is = omega (arith, none_1, ap (λ (x : ℕ). g x (down e)) z, none (down e) P) })
 
   -- the same of y, which is x cut off by the two selects in turn
   cut_off : {x z y : Float} → z ≡ above0 x → y ≡ upto (top 17) z → Index g x y
