@@ -11,7 +11,7 @@ use crate::paint::Paint;
 use crate::pixels::draw_pixel;
 use raster_edges::Edges;
 use raster_pixel::Fragment;
-use raster_pixel::row::Row;
+use raster_pixel::row::{self, Row};
 use raster_vertex::row::ShadeRow;
 
 // What pixel x emits, of which these are the samples: in the colour of its shade; or, without shades, in the paint's own, with 1.0 for the shade's alpha.
@@ -117,7 +117,7 @@ pub fn draw_row(
     let mut x = start;
     // A step is a pixel or a run of them: no range has such steps.
     while x < end {
-        let next = row.part_end(runs, x, end);
+        let next = row::part_end(runs, row.full, x, end);
         n += draw_part(target, paint, shades, &row, y, x, next);
         x = next;
     }
