@@ -1,3 +1,2 @@
--- What several proofs of `c_types` and of the crates over it share.
-pub mod Cases
+-- What is proved of `c_types` beyond its contracts.
 pub mod Back
