@@ -24,7 +24,7 @@ use Rattle.raster_pixel.specs.Emitted.{Emit, shown, emits}
 use Rattle.raster_pixel.proofs.Kept.{kept_all}
 use Rattle.raster_pixel.proofs.Parts.{from_none, from_empty, parts_bound}
 use Rattle.frame.specs.Frame.{Frame}
-use Rattle.frame_paint.specs.declared.prepare.Paint.{Paint}
+use Rattle.frame_paint.specs.declared.paint.Paint.{Paint}
 use Rattle.frame_paint.specs.declared.Target.{Target}
 use Rattle.frame_paint.specs.Pixel.{Drew, DrewOn}
 use Rattle.frame_paint.specs.Row.{painted, fragment_of, row_at}

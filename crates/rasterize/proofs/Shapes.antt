@@ -7,8 +7,9 @@ use Rattle.std.specs.Prelude.{Option, None, Some}
 use Prim.Native.Nat.{ℕ, ◌+◌, ◌*◌, ◌≤◌, ◌<◌}
 use native.Mathlib.Omega.{arith}
 use Rattle.num_float.specs.Color.{f1}
+use Rattle.state.specs.declared.Rgba.{Rgba}
 use Rattle.combiner.specs.Combine.{color_of, full_shade}
-use Rattle.combiner_resolved.specs.Resolved.{color_value, mixed_by}
+use Rattle.combiner_resolved.specs.Resolved.{color_value, mixed_by, Mixed}
 use Rattle.raster_range.specs.declared.Range.{Range}
 use Rattle.raster_range.specs.Kept.{Kept}
 use Rattle.raster_edges.specs.declared.Edges.{Edges}
@@ -33,13 +34,14 @@ use Rattle.raster_pixel.specs.SetUp.{set_up_by, set_up_emits}
 use Rattle.raster_pixel.proofs.Inside.{inside_area}
 use Rattle.raster_pixel.proofs.SetUp.{set_up_emits-by}
 use Rattle.frame.specs.Frame.{Frame}
-use Rattle.frame_paint.specs.declared.prepare.Paint.{Paint}
+use Rattle.frame_paint.specs.declared.paint.Paint.{Paint}
 use Rattle.frame_paint.specs.Steps.{step_frame}
 use Rattle.frame_paint.proofs.Paints.{any_shade}
 use Rattle.frame_paint.specs.declared.Target.{Target}
 use Rattle.frame_paint.specs.Pixel.{Drew, DrewOn}
 use Rattle.frame_paint.specs.Row.{painted, fragment_of, row_at}
 use Rattle.frame_paint.proofs.Drawing.{drew_as}
+use Rattle.rasterize.specs.Triangles.{Flat}
 use Rattle.rasterize.specs.Shape.{Shading, shading_of, shape_pixel, shape_row, shape_emits}
 use Rattle.rasterize.proofs.Same.{Same, same_as, same_parts, drew_same, drew_same_on}
 use Rattle.rasterize.proofs.Kept.{rows_kept}
@@ -47,40 +49,34 @@ use Rattle.rasterize.proofs.Kept.{rows_kept}
 -- ---- a triangle's pixel
 module _ (paint : Paint) (v : List Vertex) (e : Edges) (w y x : ℕ) where
   -- by its shade
-  smooth_pixel : row_at paint (Some (row_of v y)) e w y x ≡ emits (triangle_fragment paint.mode.antialias paint.combiner v e y x) (y * w + x)
+  smooth_pixel : Mixed paint.combiner → row_at paint (Some (row_of v y)) e w y x ≡ emits (triangle_fragment paint.mode.antialias paint.combiner v e y x) (y * w + x)
   unfolding fragment_of triangle_fragment
-  smooth_pixel =
+  smooth_pixel mixed =
       let s = shade_on (row_of v y) x in
-      let color = (λ i. color_value (mixed_by (paint.resolves i) s)) ∙ sym (paint.mixed s) ∙ ap (color_of paint.combiner) (row_shade v x y) in
+      let color = (λ i. color_value (mixed_by (paint.resolves i) s)) ∙ sym (mixed s) ∙ ap (color_of paint.combiner) (row_shade v x y) in
       λ i. emits (cond (shown paint.mode.antialias (mask_of e x)) (covered (mask_of e x) (color i) (row_shade v x y i).a) None) (y * w + x)
 
-  -- of a flat paint
+  -- of a flat one
   flat_pixel :
-      paint.flat ≡ true
+      paint.even ≡ true → ((s : Rgba) → color_of paint.combiner s ≡ color_value paint.color)
       → Same (step_frame paint.mode paint.combiner) (row_at paint None e w y x) (emits (triangle_fragment paint.mode.antialias paint.combiner v e y x) (y * w + x))
   unfolding fragment_of triangle_fragment
-  flat_pixel h = rw (paint.flattened h).1 (go (shown paint.mode.antialias (mask_of e x)))
+  flat_pixel even same = rw same (go (shown paint.mode.antialias (mask_of e x)))
     where
       go :
           (b : Bool)
           → Same (step_frame paint.mode paint.combiner) (emits (cond b (Some (painted paint None (mask_of e x) x)) None) (y * w + x))
           (emits (cond b (covered (mask_of e x) (color_value paint.color) (shade_of v x y).a) None) (y * w + x))
-      go true = record { state = λ f. any_shade paint (paint.flattened h).0 f (y * w + x) (mask_of e x) f1 (shade_of v x y).a; count = refl }
+      go true = record { state = λ f. any_shade paint even f (y * w + x) (mask_of e x) f1 (shade_of v x y).a; count = refl }
       go false = same_as refl
 
--- flat where the paint is
+-- either way
 triangle_pixel :
-    (paint : Paint) (v : List Vertex) (t : Tri) (w y x : ℕ)
-    → Same (step_frame paint.mode paint.combiner) (shape_pixel paint (shading_of paint.flat v) t w y x)
+    (paint : Paint) (v : List Vertex) (t : Tri) (w y x : ℕ) (flat : Bool) → Mixed paint.combiner → Flat paint flat
+    → Same (step_frame paint.mode paint.combiner) (shape_pixel paint (shading_of flat v) t w y x)
     (emits (triangle_fragment paint.mode.antialias paint.combiner v (edges_of t y) y x) (y * w + x))
-triangle_pixel paint v t w y x = go paint.flat refl
-  where
-    go :
-        (b : Bool) → paint.flat ≡ b
-        → Same (step_frame paint.mode paint.combiner) (shape_pixel paint (shading_of b v) t w y x)
-        (emits (triangle_fragment paint.mode.antialias paint.combiner v (edges_of t y) y x) (y * w + x))
-    go true h = flat_pixel paint v (edges_of t y) w y x h
-    go false h = same_as (smooth_pixel paint v (edges_of t y) w y x)
+triangle_pixel paint v t w y x true mixed h = flat_pixel paint v (edges_of t y) w y x (h refl).0 (h refl).1
+triangle_pixel paint v t w y x false mixed h = same_as (smooth_pixel paint v (edges_of t y) w y x mixed)
 
 -- ---- a rectangle's pixel
 rectangle_pixel :
@@ -144,12 +140,13 @@ module _ (paint : Paint) (cull : Bool) (v : View) (three : Option Triangle) wher
   emitted e = ap (set_up_emits paint.mode paint.combiner v.scissor v.width v.height) e ∙ set_up_emits-by paint.mode paint.combiner cull v.scissor v.width v.height three
 
   pub triangle_drawn :
-      {t : Tri} {o : List Vertex} {shading : Shading} {n : ℕ} {before after : Target} → Some (t, o) ≡ set_up_by cull three → shading ≡ shading_of paint.flat o
+      {flat : Bool} {t : Tri} {o : List Vertex} {shading : Shading} {n : ℕ} {before after : Target} → Mixed paint.combiner → Flat paint flat
+      → Some (t, o) ≡ set_up_by cull three → shading ≡ shading_of flat o
       → DrewOn paint.mode paint.combiner (shape_emits paint shading t v) before after n
       → DrewOn paint.mode paint.combiner (three_emits paint.mode paint.combiner cull v.scissor v.width v.height three) before after n
-  triangle_drawn {t} {o} e es d =
+  triangle_drawn {flat} {t} {o} mixed h e es d =
       drew_as (emitted e)
-      (shape_drawn_on paint (shading_of paint.flat o) t v _ (λ y x hy hx. triangle_pixel paint o t v.width y x) (drew_as (λ i. shape_emits paint (es i) t v) d))
+      (shape_drawn_on paint (shading_of flat o) t v _ (λ y x hy hx. triangle_pixel paint o t v.width y x flat mixed h) (drew_as (λ i. shape_emits paint (es i) t v) d))
 
   pub triangle_skipped : None ≡ set_up_by cull three → three_emits paint.mode paint.combiner cull v.scissor v.width v.height three ≡ []
   triangle_skipped e = sym (emitted e)

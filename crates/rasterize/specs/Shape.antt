@@ -9,14 +9,14 @@ use Rattle.raster_vertex.specs.Row.{row_of}
 use Rattle.raster_pixel.specs.Parts.{from}
 use Rattle.raster_pixel.specs.declared.view.View.{View}
 use Rattle.raster_pixel.specs.Emitted.{Emit, inside}
-use Rattle.frame_paint.specs.declared.prepare.Paint.{Paint}
+use Rattle.frame_paint.specs.declared.paint.Paint.{Paint}
 use Rattle.frame_paint.specs.Row.{row_at}
 
 -- each pixel's own, or all pixels the paint's
 abbrev pub Shading : Type 0
 Shading = Option (List Vertex)
 
--- of a triangle: none of its own where the paint is flat
+-- of a triangle: none of its own where it is flat
 abbrev pub shading_of : Bool → List Vertex → Shading
 shading_of flat v = then_some (not flat) v
 

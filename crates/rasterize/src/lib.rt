@@ -2,6 +2,8 @@
 // many pixels that emitted. Target and paint stay two parameters: one is written, and the other only read.
 #![tactic(auto)]
 
+ghost use Rattle.std.specs.Prelude.{◌≤◌, length};
+ghost use Rattle.combiner_resolved.specs.Resolved.{Mixed};
 ghost use Rattle.raster_pixel.specs.Draw.{emitted_as};
 ghost use Rattle.raster_pixel.specs.Emitted.{rectangle_emits};
 ghost use Rattle.frame_paint.specs.Pixel.{DrewOn};
@@ -9,7 +11,7 @@ ghost use Rattle.frame_paint.specs.Pixel.{DrewOn};
 use crate::rows::draw_shape;
 use crate::triangles::draw_triangles;
 use frame_paint::Target;
-use frame_paint::prepare::{Paint, prepare};
+use frame_paint::paint::Paint;
 use raster_pixel::{Geometry, Shapes};
 use raster_rectangle::Sides;
 
@@ -26,9 +28,11 @@ fn draw_rectangle(target: &mut Target, paint: &Paint, sides: Sides) -> u64
 
 // The pixels of an accepted draw, and their count. The paint is lent all the way down, so that nothing copies it.
 pub fn rasterize(target: &mut Target, shapes: &Shapes) -> u64
+    requires few { length shapes.now.lists.indices.now ≤ 12288 }
+    requires mixed { Mixed shapes.now.combiner }
     ensures drew { DrewOn shapes.now.mode shapes.now.combiner (emitted_as target.old.view shapes.now) target.old target.new result }
 {
-    let paint = prepare(shapes.mode, shapes.combiner);
+    let paint = Paint::new(shapes.mode, shapes.combiner);
     match shapes.geometry {
         Geometry::Nothing => 0,
         Geometry::Rectangle(sides) => draw_rectangle(target, &paint, sides),

@@ -5,7 +5,7 @@ ghost use Rattle.frame_paint.specs.Pixel.{DrewOn};
 ghost use Rattle.rasterize.specs.Shape.{shades_on, shape_emits};
 
 use frame_paint::Target;
-use frame_paint::prepare::Paint;
+use frame_paint::paint::Paint;
 use frame_paint::rows::draw_row;
 use raster_edges::Tri;
 use raster_vertex::Vertex;

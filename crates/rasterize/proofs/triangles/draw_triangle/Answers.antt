@@ -6,4 +6,4 @@ pub returns-in_default : goal.returns-in_default
 returns-in_default c = drew_nothing _ (triangle_skipped c.args.paint.now c.args.shapes.now.cull c.args.target.now.view _ c.in_default.ensures.value)
 
 pub returns : goal.returns
-returns c = triangle_drawn c.args.paint.now c.args.shapes.now.cull c.args.target.now.view _ c.in-Some.ensures.value c.then_some-shading.ensures c.draw_shape.ensures
+returns c = triangle_drawn c.args.paint.now c.args.shapes.now.cull c.args.target.now.view _ c.requires.mixed c.requires.flat c.in-Some.ensures.value c.then_some-shading.ensures c.draw_shape.ensures
