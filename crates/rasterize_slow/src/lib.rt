@@ -4,7 +4,8 @@
 // walks through it on one triangle.
 #![tactic(auto)]
 
-ghost use Rattle.std.specs.Prelude.{◌≡◌, ◌/◌, ◌<◌, length, IfSome};
+ghost use Rattle.std.specs.Prelude.{◌≡◌, ◌/◌, ◌<◌, ◌≤◌, length, IfSome};
+ghost use Rattle.combiner_resolved.specs.Resolved.{Mixed};
 ghost use Rattle.raster_pixel.specs.declared.Geometry.TheVariants.{Triangles};
 ghost use Rattle.raster_pixel.specs.Admitted.{triangle_at};
 ghost use Rattle.raster_pixel.specs.Near.{CornersNear};
@@ -20,7 +21,7 @@ use combiner::Combiner;
 use frame_paint::Target;
 use raster_edges::Tri;
 use raster_emitted::Slots;
-use raster_pixel::{Fragment, Geometry, Shapes, lists};
+use raster_pixel::{Fragment, Geometry, Shapes};
 use raster_rectangle::Sides;
 use raster_vertex::{Triangle, Vertex};
 use state::Rgba;
@@ -47,7 +48,7 @@ pub fn triangle(cull: bool, t: Triangle) -> Option<Shape>
     Some(Shape::Triangle(edges, vertices))
 }
 
-// Triangle i of an accepted draw.
+// Triangle i of a draw.
 fn indexed(shapes: &Shapes, i: usize) -> Option<Shape>
     requires triangles { shapes.now.geometry ≡ Triangles }
     requires listed { i < length shapes.now.lists.indices.now / 3 }
@@ -55,8 +56,8 @@ fn indexed(shapes: &Shapes, i: usize) -> Option<Shape>
         result ≡ three_shape shapes.now.cull (triangle_at lists.vertices.now lists.present.now lists.indices.now i) }
     ensures tame { IfSome result TameShape }
 {
-    let t = lists::triangle_at(&shapes.lists, i)?;
-    triangle(shapes.cull, t)
+    let (edges, vertices) = shapes.set_up(i)?;
+    Some(Shape::Triangle(edges, vertices))
 }
 
 // ---- the samples of a pixel. That column and row are below 1,024 is a clause here and below: nothing keeps a place, it is the loops' two counters.
@@ -141,9 +142,10 @@ pub fn pixel(
     })
 }
 
-// ---- every pixel of every row: each function answers how many pixels are emitted
+// ---- every pixel of every row: each function answers how many pixels are emitted, or the largest u64 where they are more. So no sum overflows, and a walk asks for no
+// bound on the triangles.
 
-// Pixel (x, y) of a shape, if it has something to emit.
+// Pixel (x, y) of a shape, if it has something to emit. Sink and shapes stay two parameters, here and below: one is written, and the other only read.
 fn visit_pixel<S: Sink>(sink: &mut S, shapes: &Shapes, shape: &Shape, y: u32, x: u32) -> u64
     requires place { (x < (S.view sink.old).width) × (y < (S.view sink.old).height) }
     requires tame { TameShape shape.now }
@@ -163,9 +165,9 @@ fn visit_row<S: Sink>(sink: &mut S, shapes: &Shapes, shape: &Shape, y: u32) -> u
     ensures sent { Sent (S.took shapes.now) (row_emits (walk_of (S.view sink.old) shapes.now) shape.now y) sink.old sink.new result }
 {
     let area = sink.view().area();
-    let mut n = 0;
+    let mut n: u64 = 0;
     for x in area.left..area.right {
-        n += visit_pixel(sink, shapes, shape, y, x);
+        n = n.saturating_add(visit_pixel(sink, shapes, shape, y, x));
     }
     n
 }
@@ -178,9 +180,9 @@ fn visit_rows<S: Sink>(sink: &mut S, shapes: &Shapes, shape: Option<Shape>) -> u
         return 0;
     };
     let area = sink.view().area();
-    let mut n = 0;
+    let mut n: u64 = 0;
     for y in area.top..area.bottom {
-        n += visit_row(sink, shapes, &shape, y);
+        n = n.saturating_add(visit_row(sink, shapes, &shape, y));
     }
     n
 }
@@ -192,10 +194,10 @@ fn visit_triangles<S: Sink>(sink: &mut S, shapes: &Shapes) -> u64
     ensures sent { let s = shapes.now in
         Sent (S.took s) (triangles_emits (walk_of (S.view sink.old) s) s.cull s.lists.vertices.now s.lists.present.now s.lists.indices.now) sink.old sink.new result }
 {
-    let mut n = 0;
+    let mut n: u64 = 0;
     for i in 0..shapes.lists.indices.len() / 3 {
         let shape = indexed(shapes, i);
-        n += visit_rows(sink, shapes, shape);
+        n = n.saturating_add(visit_rows(sink, shapes, shape));
     }
     n
 }
@@ -214,15 +216,18 @@ fn visit<S: Sink>(sink: &mut S, shapes: &Shapes) -> u64
     }
 }
 
-// The pixels of an accepted draw on the lent frame, and their count.
+// The pixels of a draw on the lent frame, and their count: of so few indices it is exact.
 pub fn rasterize(target: &mut Target, shapes: &Shapes) -> u64
+    requires few { length shapes.now.lists.indices.now ≤ 12288 }
     ensures drew { DrewOn shapes.now.mode shapes.now.combiner (emitted_as target.old.view shapes.now) target.old target.new result }
 {
     visit(target, shapes)
 }
 
-// The same pixels by number and mask, without a frame: they are counted, and those that are asked for are in their slots.
+// The same pixels by number and mask, without a frame: they are counted, and those that are asked for are in their slots. A pixel that
+// has no colour emits nothing, while the list is told by samples alone: so the combiner has a colour for every shade.
 pub fn list_pixels(slots: &mut Slots, shapes: &Shapes)
+    requires { Mixed shapes.now.combiner }
     ensures { ListedIn (masks_as slots.old.view shapes.now) slots.old slots.new }
 {
     visit(slots, shapes);

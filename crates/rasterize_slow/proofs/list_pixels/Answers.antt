@@ -13,5 +13,5 @@ returns c =
     let l = d.lists in
     let v = c.args.slots.now.view in
     let emitted = walk-emits (walk_of v d) v.scissor v.height refl d.cull l.vertices.now l.present.now l.indices.now d.geometry in
-    let masks = geometry-masks d.combiner (mixed_by (resolved_of d.combiner)) d.mixed d.mode d.cull v.scissor v.width v.height l.vertices.now l.present.now l.indices.now d.geometry in
+    let masks = geometry-masks d.combiner (mixed_by (resolved_of d.combiner)) c.requires d.mode d.cull v.scissor v.width v.height l.vertices.now l.present.now l.indices.now d.geometry in
     listed_as (ap (map masked_of) emitted ∙ masks) c.visit.ensures.sent.taken

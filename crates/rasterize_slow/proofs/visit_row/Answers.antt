@@ -4,7 +4,7 @@ use Rattle.raster_pixel.specs.declared.view.View.{View}
 use Rattle.raster_pixel.specs.Parts.{from}
 use Rattle.raster_pixel.proofs.Inside.{bounded}
 use Rattle.rasterize_slow.specs.Shape.{walk_of, pixel_emits}
-use Rattle.rasterize_slow.proofs.Sending.{sent_as, sending_start, sending_more, sending_done, pixel_most, pixels_most, area_same}
+use Rattle.rasterize_slow.proofs.Sending.{sent_as, sending_start, sending_more, sending_done, area_same}
 use Rattle.rasterize_slow.proofs.visit_row.Goals as goal
 
 pub loop-x-init : goal.loop-x-init
@@ -20,28 +20,14 @@ loop-x-init g c =
     }
 
 -- the view is still the same
-pub visit_pixel-n-requires-clause-place : goal.visit_pixel-n-requires-clause-place
-visit_pixel-n-requires-clause-place g c =
+pub visit_pixel-requires-clause-place : goal.visit_pixel-requires-clause-place
+visit_pixel-requires-clause-place g c =
     let a = c.args in
     let d = a.shapes.now in
     let u = g.S.Sink.view a.sink.now in
     let es = from (pixel_emits (walk_of u d) a.shape.now a.y) (walk_of u d).area.left c.loop-x.x in
     let b = bounded u.scissor u.width u.height (area_same c.view.ensures c.area-area.ensures.value) in
     subst (λ (v : View). (c.loop-x.x < v.width) × (a.y < v.height)) (sym (g.met.S.Sink.same_view d es a.sink.now c.loop-x.sink c.loop-x.invariant.sent.taken)) (omega (arith, b.right_in), c.requires.row)
-
-pub overflow_add-n : goal.overflow_add-n
-overflow_add-n g c =
-    let a = c.args in
-    let d = a.shapes.now in
-    let u = g.S.Sink.view a.sink.now in
-    let x = c.loop-x.x in
-    omega (
-      arith,
-      c.loop-x.invariant.sent.count,
-      pixels_most u d a.shape.now a.y (walk_of u d).area.left x,
-      c.visit_pixel-n.ensures.sent.count,
-      pixel_most (g.S.Sink.view c.loop-x.sink) d a.shape.now a.y x,
-    )
 
 pub loop-x-preserved : goal.loop-x-preserved
 loop-x-preserved g c =
@@ -57,8 +43,8 @@ loop-x-preserved g c =
     record {
       from_left = omega (arith, i.from_left);
       to_right = omega (arith, right);
-      sent = sending_more (pixel_emits (walk_of u d) a.shape.now a.y) left (g.met.S.Sink.took_then d) i.from_left i.sent
-          (sent_as (ap (λ (v : View). pixel_emits (walk_of v d) a.shape.now a.y x) same) c.visit_pixel-n.ensures.sent);
+      sent = sending_more (pixel_emits (walk_of u d) a.shape.now a.y) left (g.met.S.Sink.took_then d) c.saturating_add-n.ensures i.from_left i.sent
+          (sent_as (ap (λ (v : View). pixel_emits (walk_of v d) a.shape.now a.y x) same) c.visit_pixel.ensures.sent);
     }
 
 pub returns : goal.returns

@@ -4,7 +4,7 @@ use Rattle.raster_pixel.specs.declared.view.View.{View}
 use Rattle.raster_pixel.specs.Parts.{from}
 use Rattle.raster_pixel.proofs.Inside.{bounded}
 use Rattle.rasterize_slow.specs.Shape.{walk_of, row_emits}
-use Rattle.rasterize_slow.proofs.Sending.{sent_as, sending_start, sending_more, row_most, rows_most, area_same}
+use Rattle.rasterize_slow.proofs.Sending.{sent_as, sending_start, sending_more, area_same}
 use Rattle.rasterize_slow.proofs.visit_rows.Goals as goal
 
 pub loop-y-init : goal.loop-y-init
@@ -19,30 +19,13 @@ loop-y-init g c =
     }
 
 -- the view is still the same
-pub visit_row-n-requires-clause-row : goal.visit_row-n-requires-clause-row
-visit_row-n-requires-clause-row g c =
+pub visit_row-requires-clause-row : goal.visit_row-requires-clause-row
+visit_row-requires-clause-row g c =
     let d = c.args.shapes.now in
     let u = g.S.Sink.view c.args.sink.now in
     let es = from (row_emits (walk_of u d) c.in-Some.shape) (walk_of u d).area.top c.loop-y.y in
     let b = bounded u.scissor u.width u.height (area_same c.view.ensures c.area-area.ensures.value) in
     subst (λ (v : View). c.loop-y.y < v.height) (sym (g.met.S.Sink.same_view d es c.args.sink.now c.loop-y.sink c.loop-y.invariant.sent.taken)) (omega (arith, b.bottom_in))
-
-pub overflow_add-n : goal.overflow_add-n
-overflow_add-n g c =
-    let d = c.args.shapes.now in
-    let u = g.S.Sink.view c.args.sink.now in
-    let i = c.loop-y.invariant in
-    let y = c.loop-y.y in
-    omega (
-      arith,
-      i.to_bottom,
-      (bounded u.scissor u.width u.height refl).bottom_in,
-      u.sized.height_small,
-      i.sent.count,
-      rows_most u d c.in-Some.shape (walk_of u d).area.top y,
-      c.visit_row-n.ensures.sent.count,
-      row_most (g.S.Sink.view c.loop-y.sink) d c.in-Some.shape y,
-    )
 
 pub loop-y-preserved : goal.loop-y-preserved
 loop-y-preserved g c =
@@ -57,6 +40,6 @@ loop-y-preserved g c =
     record {
       from_top = omega (arith, i.from_top);
       to_bottom = omega (arith, bottom);
-      sent = sending_more (row_emits (walk_of u d) c.in-Some.shape) top (g.met.S.Sink.took_then d) i.from_top i.sent
-          (sent_as (ap (λ (v : View). row_emits (walk_of v d) c.in-Some.shape y) same) c.visit_row-n.ensures.sent);
+      sent = sending_more (row_emits (walk_of u d) c.in-Some.shape) top (g.met.S.Sink.took_then d) c.saturating_add-n.ensures i.from_top i.sent
+          (sent_as (ap (λ (v : View). row_emits (walk_of v d) c.in-Some.shape y) same) c.visit_row.ensures.sent);
     }

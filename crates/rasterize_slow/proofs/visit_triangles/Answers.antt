@@ -6,7 +6,7 @@ use Rattle.raster_pixel.specs.Emitted.{Emit}
 use Rattle.raster_pixel.specs.Parts.{from}
 use Rattle.rasterize_slow.specs.declared.Shape.{Shape}
 use Rattle.rasterize_slow.specs.Shape.{walk_of, shape_emits, three_shape}
-use Rattle.rasterize_slow.proofs.Sending.{sent_as, sending_start, sending_more, shape_most, shapes_most}
+use Rattle.rasterize_slow.proofs.Sending.{sent_as, sending_start, sending_more}
 use Rattle.rasterize_slow.proofs.visit_triangles.Goals as goal
 
 -- triangle i of a draw
@@ -18,23 +18,11 @@ loop-i-init g c =
     let d = c.args.shapes.now in
     sending_start (λ (i : ℕ). shape_emits (walk_of (g.S.Sink.view c.args.sink.now) d) (shape_at d i)) 0 {i = 0} (omega arith) (g.met.S.Sink.took_none d c.args.sink.now)
 
-pub overflow_add-n : goal.overflow_add-n
-overflow_add-n g c =
-    let d = c.args.shapes.now in
-    omega (
-      arith,
-      d.few,
-      c.loop-i.invariant.count,
-      shapes_most (g.S.Sink.view c.args.sink.now) d (shape_at d) 0 c.loop-i.i,
-      c.visit_rows-n.ensures.sent.count,
-      shape_most (g.S.Sink.view c.loop-i.sink) d c.indexed-shape.result,
-    )
-
 pub loop-i-preserved : goal.loop-i-preserved
 loop-i-preserved g c =
     let d = c.args.shapes.now in
     let walk = walk_of (g.S.Sink.view c.args.sink.now) d in
     let emitted : ℕ → List Emit = λ i. shape_emits walk (shape_at d i) in
     let same = g.met.S.Sink.same_view d (from emitted 0 c.loop-i.i) c.args.sink.now c.loop-i.sink c.loop-i.invariant.taken in
-    sending_more emitted 0 (g.met.S.Sink.took_then d) (omega arith) c.loop-i.invariant
-    (sent_as (ap (λ (v : View). shape_emits (walk_of v d) c.indexed-shape.result) same ∙ ap (shape_emits walk) {y = shape_at d c.loop-i.i} c.indexed-shape.ensures.shape) c.visit_rows-n.ensures.sent)
+    sending_more emitted 0 (g.met.S.Sink.took_then d) c.saturating_add-n.ensures (omega arith) c.loop-i.invariant
+    (sent_as (ap (λ (v : View). shape_emits (walk_of v d) c.indexed-shape.result) same ∙ ap (shape_emits walk) {y = shape_at d c.loop-i.i} c.indexed-shape.ensures.shape) c.visit_rows.ensures.sent)
