@@ -31,7 +31,7 @@ module _ {S : Type 0} {took : List Emit → S → S → Type 0} where
 
   module _ (then : (es fs : List Emit) (s t u : S) → took es s t → took fs t u → took (es ++ fs) s u) where
     -- one part and then another
-    sent_then : {es fs : List Emit} {s t u : S} {n m r : ℕ} → r ≡ counted (n + m) → Sent took es s t n → Sent took fs t u m → Sent took (es ++ fs) s u r
+    pub sent_then : {es fs : List Emit} {s t u : S} {n m r : ℕ} → r ≡ counted (n + m) → Sent took es s t n → Sent took fs t u m → Sent took (es ++ fs) s u r
     sent_then {es} {fs} {s} {t} {u} sum d e =
         record { taken = then es fs s t u d.taken e.taken; count = omega (arith, sum, d.count, e.count, length-append es fs) }
 
