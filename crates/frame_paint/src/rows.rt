@@ -96,8 +96,8 @@ fn draw_part(
     row_pixel(target, paint, shades, mask, y, x)
 }
 
-// The pixels of row y from start up to end: by their shades, or, without shades, all of the paint's own colour. Two numbers and no Range, since no Range says that it does not
-// end before it starts.
+// The pixels of row y from start up to end: by their shades, or, without shades, all of the paint's own colour. Start and end are two numbers and no Range, since no Range says
+// that it does not end before it starts.
 pub fn draw_row(
     target: &mut Target,
     paint: &Paint,
