@@ -28,8 +28,7 @@ use Rattle.frame.specs.Frame.{Frame, frame_of}
 use Rattle.frame.specs.Fits.{Fit}
 use Rattle.frame_paint.specs.Steps.{step_frame}
 use Rattle.frame.specs.Checks.{frame_refusal, or_else}
-use Rattle.raster_pixel.specs.declared.view.View.{View}
-use Rattle.raster_pixel.specs.declared.shapes.Shapes.{Shapes}
+use Rattle.frame_draw.specs.declared.accepted.AcceptedDraw.{AcceptedDraw}
 use Rattle.frame_draw.specs.Checks.{scissor_ok, flags_ok, inputs_ok, entry_refusal}
 use Rattle.frame_draw.specs.Draw.{DrawArgs, Plan, emitted_by, admitted_plan, made_plan, refuse_or, plan_of, drawn_means, answer_by, frame_by, draw_answer, draw_frame}
 use Rattle.frame_draw.specs.Answered.{Accepted, Planned}
@@ -38,8 +37,8 @@ use Rattle.frame.proofs.Fits.{accepted}
 -- ---- the plan that the checks find
 module _ (d : DrawArgs) (w h : ℕ) (f : Frame) where
   -- an `Err` that is handed on
-  pub refused : (e : Refusal) → Plan.refuse (number_of e) ≡ plan_of d w h f → (r : Result (View × Shapes) Refusal) → IsErrAnd r (λ (x : Refusal). x ≡ e) → Planned d w h f r
-  refused e p (Ok x) q = absurd q
+  pub refused : (e : Refusal) → Plan.refuse (number_of e) ≡ plan_of d w h f → (r : Result AcceptedDraw Refusal) → IsErrAnd r (λ (x : Refusal). x ≡ e) → Planned d w h f r
+  refused e p (Ok a) q = absurd q
   refused e p (Err x) q = ap (λ (x : Refusal). Plan.refuse (number_of x)) q ∙ p
 
   pub early : (e : Refusal) → number_of e ≡ entry_refusal f w h d.scissor d.vertices d.present d.indices → Plan.refuse (number_of e) ≡ plan_of d w h f
@@ -137,11 +136,11 @@ module _ (d : DrawArgs) (w h : ℕ) (f : Frame) where
 
   -- carried out
   pub draw_accepted :
-      {v : View} {s : Shapes} → Accepted d w h f v s → {n : ℕ} {g : Frame} → Ran (step_frame s.mode s.combiner) (emitted_as v s) f g n
+      {a : AcceptedDraw} → Accepted d w h f a → {n : ℕ} {g : Frame} → Ran (step_frame a.shapes.mode a.shapes.combiner) (emitted_as a.view a.shapes) f g n
       → (drawn_means (Ok n) ≡ draw_answer d w h f) × (g ≡ draw_frame d w h f)
   unfolding draw_answer draw_frame
-  draw_accepted {s = s} a t =
-      (ap (λ (n : ℕ). drawn_means (Ok n)) t.count ∙ ap answer_by a.plan, t.state ∙ ap₂ (λ (m : RenderMode) (p : Plan). frame_by m p f) a.mode a.plan)
+  draw_accepted x t =
+      (ap (λ (n : ℕ). drawn_means (Ok n)) t.count ∙ ap answer_by x.plan, t.state ∙ ap₂ (λ (m : RenderMode) (p : Plan). frame_by m p f) x.mode x.plan)
 
 -- a frame by its three slices
 pub by_slices :

@@ -5,17 +5,16 @@ use Rattle.frame.specs.Fits.{Fit}
 use Rattle.refused.specs.declared.Refusal.{Refusal}
 use Rattle.refused.specs.Numbers.{number_of}
 use Rattle.raster_pixel.specs.Draw.{emitted_as}
-use Rattle.raster_pixel.specs.declared.view.View.{View}
-use Rattle.raster_pixel.specs.declared.shapes.Shapes.{Shapes}
+use Rattle.frame_draw.specs.declared.accepted.AcceptedDraw.{AcceptedDraw}
 use Rattle.frame_draw.specs.Draw.{DrawArgs, Plan, plan_of}
 
 -- an accepted draw: its plan, the mode that was asked for, and a frame of the view's size
-pub record Accepted (d : DrawArgs) (w h : ℕ) (f : Frame) (v : View) (s : Shapes) : Type 0 where
-  pub plan : Plan.accept s.combiner (emitted_as v s) ≡ plan_of d w h f
-  pub mode : s.mode ≡ d.mode
-  pub fit : Fit (v.width * v.height) f
+pub record Accepted (d : DrawArgs) (w h : ℕ) (f : Frame) (a : AcceptedDraw) : Type 0 where
+  pub plan : Plan.accept a.shapes.combiner (emitted_as a.view a.shapes) ≡ plan_of d w h f
+  pub mode : a.shapes.mode ≡ d.mode
+  pub fit : Fit (a.view.width * a.view.height) f
 
 -- what the code's checks answer is the draw's plan
-abbrev pub Planned : DrawArgs → ℕ → ℕ → Frame → Result (View × Shapes) Refusal → Type 0
-Planned d w h f (Ok x) = Accepted d w h f x.0 x.1
+abbrev pub Planned : DrawArgs → ℕ → ℕ → Frame → Result AcceptedDraw Refusal → Type 0
+Planned d w h f (Ok a) = Accepted d w h f a
 Planned d w h f (Err e) = Plan.refuse (number_of e) ≡ plan_of d w h f

@@ -17,7 +17,10 @@ use raster_pixel::{Geometry, Lists, Scissor, Shapes, View};
 use refused::Refusal;
 use state::{CombinerUniform, RenderMode};
 
+pub mod accepted; // a draw that numbers 1 to 7 let through
 mod refusal; // numbers 4 and 5
+
+pub use crate::accepted::AcceptedDraw;
 
 // Which engine finds a draw's pixels. They are the same: `Slow` is there to be read, docs/RASTERISER.md.
 #[derive(Clone, Copy, Debug, PartialEq, Eq)]
@@ -37,7 +40,7 @@ pub struct DrawCall<'a> {
     pub lists: Lists<'a>,
 }
 
-// What numbers 1 to 7 say of a draw: the first that holds, or what it draws and where.
+// What numbers 1 to 7 say of a draw: the first that holds, or the draw that they let through.
 pub fn accept<'a>(
     width: u32,
     height: u32,
@@ -45,7 +48,7 @@ pub fn accept<'a>(
     coverages: &[u8],
     marks: &[u8],
     draw: &DrawCall<'a>,
-) -> Result<(View, Shapes<'a>), Refusal>
+) -> Result<AcceptedDraw<'a>, Refusal>
     ensures plan { Planned (draw_of draw.now) width height (frame_of colors.now coverages.now marks.now) result }
 {
     refusal::entry_refusal(width, height, colors, coverages, marks, draw)?;
@@ -65,17 +68,17 @@ pub fn accept<'a>(
         geometry: draw.geometry,
         lists: draw.lists,
     };
-    Ok((view, shapes))
+    Ok(AcceptedDraw { view, shapes })
 }
 
 // The pixels of an accepted draw, and their count.
-fn rasterize_by(engine: Engine, target: &mut Target, shapes: &Shapes) -> u64
-    ensures drew { DrewOn shapes.now.mode shapes.now.combiner (emitted_as target.old.view shapes.now) target.old target.new result }
+fn rasterize_by(engine: Engine, target: &mut Target, draw: &AcceptedDraw) -> u64
+    ensures drew { let s = draw.now.shapes in DrewOn s.mode s.combiner (emitted_as target.old.view s) target.old target.new result }
 {
     // The host chooses at run time, and two calls are the plainest choice of two.
     match engine {
-        Engine::Fast => rasterize::rasterize(target, shapes),
-        Engine::Slow => rasterize_slow::rasterize(target, shapes),
+        Engine::Fast => rasterize::rasterize(target, &draw.shapes),
+        Engine::Slow => rasterize_slow::rasterize(target, &draw.shapes),
     }
 }
 
@@ -93,12 +96,12 @@ pub fn draw(
     ensures frame { after colors coverages marks ≡ draw_frame (draw_of draw.now) width height (before colors coverages marks) }
     ensures number { Numbered result }
 {
-    let (view, shapes) = accept(width, height, colors, coverages, marks, draw)?;
+    let accepted = accept(width, height, colors, coverages, marks, draw)?;
     let mut target = Target {
-        view,
+        view: accepted.view,
         colors,
         coverages,
         marks,
     };
-    Ok(rasterize_by(engine, &mut target, &shapes))
+    Ok(rasterize_by(engine, &mut target, &accepted))
 }

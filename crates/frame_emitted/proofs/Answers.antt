@@ -16,8 +16,6 @@ use Rattle.refused.specs.declared.Refusal.TheVariants as refusal
 use Rattle.refused.specs.Numbers.{number_of}
 use Rattle.refused.proofs.Numbers.{positive}
 use Rattle.combiner_resolved.specs.Resolved.{mixed_by, resolved_of}
-use Rattle.raster_pixel.specs.declared.view.View.{View}
-use Rattle.raster_pixel.specs.declared.shapes.Shapes.{Shapes}
 use Rattle.raster_pixel.specs.Draw.{emitted_as}
 use Rattle.raster_pixel.proofs.Counts.{geometry_most}
 use Rattle.raster_pixel.proofs.Parts.{each_length, each_at}
@@ -28,6 +26,7 @@ use Rattle.raster_emitted.proofs.Colorless.{geometry-masks}
 use Rattle.frame.specs.Checks.{or_else}
 use Rattle.frame.specs.Frame.{Frame}
 use Rattle.frame_draw.specs.Draw.{DrawArgs, Plan, plan_of, answer_by, draw_answer}
+use Rattle.frame_draw.specs.declared.accepted.AcceptedDraw.{AcceptedDraw}
 use Rattle.frame_draw.specs.Answered.{Accepted}
 use Rattle.frame_emitted.specs.declared.Emitted.{Emitted}
 use Rattle.frame_emitted.specs.declared.Listed.{Listed}
@@ -39,20 +38,24 @@ use Rattle.frame_emitted.proofs.Ends.{pixel_there}
 use Rattle.frame_emitted.proofs.Slots.{run_listed}
 
 -- ---- what an accepted draw emits
-module _ (v : View) (s : Shapes) where
+module _ (a : AcceptedDraw) where
   -- it is listed without its colours
-  masks_are : map masked_of (emitted_as v s) ≡ masks_as v s
+  masks_are : map masked_of (emitted_as a.view a.shapes) ≡ masks_as a.view a.shapes
   masks_are =
-      geometry-masks s.combiner (mixed_by (resolved_of s.combiner)) s.mixed s.mode s.cull v.scissor v.width v.height s.lists.vertices.now s.lists.present.now s.lists.indices.now s.geometry
+      let v = a.view in
+      let s = a.shapes in
+      geometry-masks s.combiner (mixed_by (resolved_of s.combiner)) a.mixed s.mode s.cull v.scissor v.width v.height s.lists.vertices.now s.lists.present.now s.lists.indices.now s.geometry
 
   -- and counts as many pixels
-  masks_count : length (masks_as v s) ≡ length (emitted_as v s)
-  masks_count = ap length (sym masks_are) ∙ length-map (emitted_as v s) masked_of
+  masks_count : length (masks_as a.view a.shapes) ≡ length (emitted_as a.view a.shapes)
+  masks_count = ap length (sym masks_are) ∙ length-map (emitted_as a.view a.shapes) masked_of
 
   -- so few that no count overflows
-  pub masks_few : length (masks_as v s) ≤ largest_count
+  pub masks_few : length (masks_as a.view a.shapes) ≤ largest_count
   masks_few =
-      omega (arith, masks_count, s.few, geometry_most v.scissor v.sized.width_small v.sized.height_small s.mode s.combiner s.cull s.lists.vertices.now s.lists.present.now s.lists.indices.now s.geometry)
+      let v = a.view in
+      let s = a.shapes in
+      omega (arith, masks_count, a.few, geometry_most v.scissor v.sized.width_small v.sized.height_small s.mode s.combiner s.cull s.lists.vertices.now s.lists.present.now s.lists.indices.now s.geometry)
 
 module _ (d : DrawArgs) (w h : ℕ) (f : Frame) where
   -- ---- turned away
@@ -82,22 +85,22 @@ module _ (d : DrawArgs) (w h : ℕ) (f : Frame) where
         go (suc n) l next answers = refl
 
   -- ---- accepted
-  module _ {v : View} {s : Shapes} (accepted : Accepted d w h f v s) where
-    answer_at_lem : (k : ℕ) → pixel_of (get_or (masks_as v s) k no_pixel) ≡ emitted_answer d w h f k
+  module _ {a : AcceptedDraw} (accepted : Accepted d w h f a) where
+    answer_at_lem : (k : ℕ) → pixel_of (get_or (masks_as a.view a.shapes) k no_pixel) ≡ emitted_answer d w h f k
     unfolding emitted_answer
-    answer_at_lem k = ap (λ (l : List Masked). pixel_of (get_or l k no_pixel)) (sym (masks_are v s)) ∙ ap (λ (p : Plan). pixel_by p k) accepted.plan
+    answer_at_lem k = ap (λ (l : List Masked). pixel_of (get_or l k no_pixel)) (sym (masks_are a)) ∙ ap (λ (p : Plan). pixel_by p k) accepted.plan
 
     -- the count that `draw` would answer
-    count_is : length (masks_as v s) ≡ (draw_answer d w h f).pixels
+    count_is : length (masks_as a.view a.shapes) ≡ (draw_answer d w h f).pixels
     unfolding draw_answer
-    count_is = masks_count v s ∙ ap (λ (p : Plan). (answer_by p).pixels) accepted.plan
+    count_is = masks_count a ∙ ap (λ (p : Plan). (answer_by p).pixels) accepted.plan
 
     pub pixel_accepted :
-        (a : Option Emitted) (k : ℕ) → pixel_means (Ok a) ≡ pixel_of (get_or (masks_as v s) k no_pixel) → FoundAt (masks_as v s) k a
-        → (pixel_means (Ok a) ≡ emitted_answer d w h f k) × NumberedPixel (Ok a)
-    pixel_accepted a k p q = let e = p ∙ answer_at_lem k in (e, right a e q)
+        (o : Option Emitted) (k : ℕ) → pixel_means (Ok o) ≡ pixel_of (get_or (masks_as a.view a.shapes) k no_pixel) → FoundAt (masks_as a.view a.shapes) k o
+        → (pixel_means (Ok o) ≡ emitted_answer d w h f k) × NumberedPixel (Ok o)
+    pixel_accepted o k p q = let e = p ∙ answer_at_lem k in (e, right o e q)
       where
-        right : (a : Option Emitted) → pixel_means (Ok a) ≡ emitted_answer d w h f k → FoundAt (masks_as v s) k a → NumberedPixel (Ok a)
+        right : (o : Option Emitted) → pixel_means (Ok o) ≡ emitted_answer d w h f k → FoundAt (masks_as a.view a.shapes) k o → NumberedPixel (Ok o)
         right (Some p) e q =
             let t = pixel_there d w h f k (omega (arith, count_is)) in
             omega (arith, t.1, ap (λ (x : PixelAnswer). x.mask) e)
@@ -109,13 +112,13 @@ module _ (d : DrawArgs) (w h : ℕ) (f : Frame) where
         → (pixels_means (Err refusal.Slots) ps ms ≡ emitted_run d w h f first ps ms) × NumberedPixels (Err refusal.Slots)
     unfolding emitted_run draw_answer
     run_unequal first ps ms n = (
-      (λ i. pixels_by (cond (sym (ne_eqb (length ps) (length ms) n) i) 0 20) first (length (emitted_as v s)) (singles d w h f first (length ms)) ps ms)
+      (λ i. pixels_by (cond (sym (ne_eqb (length ps) (length ms) n) i) 0 20) first (length (emitted_as a.view a.shapes)) (singles d w h f first (length ms)) ps ms)
           ∙ (λ i. pixels_by (or_else (answer_by (accepted.plan i)).number (cond (eqb (length ps) (length ms)) 0 20)) first (answer_by (accepted.plan i)).pixels (singles d w h f first (length ms)) ps ms),
       omega arith,
     )
 
     -- a slot for each single answer
-    module _ {first n : ℕ} {ms ps' ms' : List ℕ} (l : ListedAll (masks_as v s) first n ms ps' ms') where
+    module _ {first n : ℕ} {ms ps' ms' : List ℕ} (l : ListedAll (masks_as a.view a.shapes) first n ms ps' ms') where
       column :
           (of : PixelAnswer → ℕ) (xs : List ℕ) → length xs ≡ length ms
           → ((i : ℕ) → i < length ms → get_or xs i 0 ≡ of (emitted_answer d w h f (first + i))) → of (without_pixel 0) ≡ 0
@@ -139,12 +142,12 @@ module _ (d : DrawArgs) (w h : ℕ) (f : Frame) where
           → (pixels_means (Ok (record { listed = m; emitted = n })) ps' ms' ≡ emitted_run d w h f first ps ms) × NumberedPixels (Ok (record { listed = m; emitted = n }))
       unfolding emitted_run draw_answer
       run_means ps {m} equal em =
-          let count : n ≡ length (emitted_as v s) = l.count ∙ masks_count v s in
-          let slots : m ≡ min (length ms) (length (emitted_as v s) - first) = omega (arith, em, l.masks_long, count) in
+          let count : n ≡ length (emitted_as a.view a.shapes) = l.count ∙ masks_count a in
+          let slots : m ≡ min (length ms) (length (emitted_as a.view a.shapes) - first) = omega (arith, em, l.masks_long, count) in
           let pixels = column (λ (a : PixelAnswer). a.pixel) ps' l.pixels_long (λ i p. ap (λ (a : PixelAnswer). a.pixel) (slot_at i p)) refl in
           let masks = column (λ (a : PixelAnswer). a.mask) ms' l.masks_long (λ i p. ap (λ (a : PixelAnswer). a.mask) (slot_at i p)) refl in (
             (λ i. record { number = 0; listed = slots i; emitted = count i; pixels = pixels i; masks = masks i })
-                ∙ (λ i. pixels_by (cond (sym (eq-eqb (length ps) (length ms) equal) i) 0 20) first (length (emitted_as v s)) (singles d w h f first (length ms)) ps ms)
+                ∙ (λ i. pixels_by (cond (sym (eq-eqb (length ps) (length ms) equal) i) 0 20) first (length (emitted_as a.view a.shapes)) (singles d w h f first (length ms)) ps ms)
                 ∙ (λ i. pixels_by (or_else (answer_by (accepted.plan i)).number (cond (eqb (length ps) (length ms)) 0 20)) first (answer_by (accepted.plan i)).pixels (singles d w h f first (length ms)) ps ms),
             tt,
           )
@@ -152,9 +155,9 @@ module _ (d : DrawArgs) (w h : ℕ) (f : Frame) where
     -- where they were counted from none on to the largest count
     pub run_accepted :
         (ps : List ℕ) {ps' ms' : List ℕ} {before after cleared : Slots} {m : ℕ} → before.count ≡ 0 → before.limit ≡ largest_count
-        → length ps ≡ length before.masks.now → ListedIn (masks_as v s) before after → Cleared after cleared
+        → length ps ≡ length before.masks.now → ListedIn (masks_as a.view a.shapes) before after → Cleared after cleared
         → ps' ≡ cleared.pixels.now → ms' ≡ cleared.masks.now → m ≡ min (length cleared.masks.now) (cleared.count - cleared.first)
         → (pixels_means (Ok (record { listed = m; emitted = cleared.count })) ps' ms' ≡ emitted_run d w h f before.first ps before.masks.now)
         × NumberedPixels (Ok (record { listed = m; emitted = cleared.count }))
     run_accepted ps none limit equal listed cleared ep em reached =
-        run_means (run_listed none limit (masks_few v s) listed cleared ep em) ps equal (omega (arith, reached, ap length em, cleared.first, listed.first))
+        run_means (run_listed none limit (masks_few a) listed cleared ep em) ps equal (omega (arith, reached, ap length em, cleared.first, listed.first))

@@ -13,9 +13,8 @@ ghost use Rattle.frame_emitted.specs.Emitted.{pixel_means, pixel_of, emitted_ans
 ghost use Rattle.frame_emitted.specs.Run.{pixels_means, emitted_run, NumberedPixels};
 ghost use Rattle.frame_emitted.specs.Places.{FoundAt};
 
-use frame_draw::{DrawCall, Engine};
+use frame_draw::{AcceptedDraw, DrawCall, Engine};
 use raster_emitted::Slots;
-use raster_pixel::{Shapes, View};
 use refused::Refusal;
 
 // An emitted pixel and its mask.
@@ -33,32 +32,32 @@ pub struct Listed {
 }
 
 // The pixels of an accepted draw: they are counted up to the slots' limit, and those that are asked for go to their slots.
-fn list_by(engine: Engine, slots: &mut Slots, shapes: &Shapes)
-    ensures { ListedIn (masks_as slots.old.view shapes.now) slots.old slots.new }
+fn list_by(engine: Engine, slots: &mut Slots, draw: &AcceptedDraw)
+    ensures { ListedIn (masks_as slots.old.view draw.now.shapes) slots.old slots.new }
 {
     // The host chooses at run time, and two calls are the plainest choice of two.
     match engine {
-        Engine::Fast => raster_emitted::list_pixels(slots, shapes),
-        Engine::Slow => rasterize_slow::list_pixels(slots, shapes),
+        Engine::Fast => raster_emitted::list_pixels(slots, &draw.shapes),
+        Engine::Slow => rasterize_slow::list_pixels(slots, &draw.shapes),
     }
 }
 
 // Pixel k of an accepted draw, in a slot of its own, if the draw emits as many. Slots are slices, so that the slot is two arrays of one element.
-fn pixel_at(engine: Engine, k: u64, view: View, shapes: &Shapes) -> Option<Emitted>
-    ensures result_value { pixel_means (Ok result) ≡ pixel_of (slice_index_or (masks_as view shapes.now) k no_pixel) }
-    ensures found_at { FoundAt (masks_as view shapes.now) k result }
+fn pixel_at(engine: Engine, k: u64, draw: &AcceptedDraw) -> Option<Emitted>
+    ensures result_value { pixel_means (Ok result) ≡ pixel_of (slice_index_or (masks_as draw.now.view draw.now.shapes) k no_pixel) }
+    ensures found_at { FoundAt (masks_as draw.now.view draw.now.shapes) k result }
 {
     let mut pixels = [0u32; 1];
     let mut masks = [0u8; 1];
     let mut slots = Slots {
-        view,
+        view: draw.view,
         first: k,
         limit: k.saturating_add(1),
         count: 0,
         pixels: &mut pixels,
         masks: &mut masks,
     };
-    list_by(engine, &mut slots, shapes);
+    list_by(engine, &mut slots, draw);
     if slots.count <= k {
         return None;
     }
@@ -82,8 +81,8 @@ pub fn emitted_pixel(
     ensures answer { pixel_means result ≡ emitted_answer (draw_of draw.now) width height (frame_of colors.now coverages.now marks.now) k }
     ensures number { NumberedPixel result }
 {
-    let (view, shapes) = frame_draw::accept(width, height, colors, coverages, marks, draw)?;
-    Ok(pixel_at(engine, k, view, &shapes))
+    let accepted = frame_draw::accept(width, height, colors, coverages, marks, draw)?;
+    Ok(pixel_at(engine, k, &accepted))
 }
 
 // The pixels that a draw emits, from the first-th on, as many as there are slots: slot i has what the single call answers for first + i. Its own refusal, 20, is
@@ -104,12 +103,12 @@ pub fn emitted_pixels(
         pixels_means result (new pixels) (new masks) ≡ emitted_run d width height (frame_of colors.now coverages.now marks.now) first (old pixels) (old masks) }
     ensures number { NumberedPixels result }
 {
-    let (view, shapes) = frame_draw::accept(width, height, colors, coverages, marks, draw)?;
+    let accepted = frame_draw::accept(width, height, colors, coverages, marks, draw)?;
     if pixels.len() != masks.len() {
         return Err(Refusal::Slots);
     }
     let mut slots = Slots {
-        view,
+        view: accepted.view,
         first,
         // all are counted: the largest count is more than a draw emits
         limit: u64::MAX,
@@ -117,7 +116,7 @@ pub fn emitted_pixels(
         pixels,
         masks,
     };
-    list_by(engine, &mut slots, &shapes);
+    list_by(engine, &mut slots, &accepted);
     slots.clear();
     Ok(Listed {
         listed: slots.reached() as u64,

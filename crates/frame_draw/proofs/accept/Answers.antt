@@ -3,6 +3,9 @@ use Rattle.refused.specs.declared.Refusal.{Refusal}
 use Rattle.refused.specs.Numbers.{number_of}
 use Rattle.frame_draw.specs.Draw.{draw_of, Plan}
 use Rattle.combiner_resolved.proofs.Mixes.{new_mixes}
+use Rattle.raster_pixel.specs.declared.Geometry.{Geometry}
+use Rattle.raster_pixel.specs.Admitted.{admitted_of}
+use Rattle.raster_pixel.proofs.Near.{admitted_near}
 use Rattle.frame_draw.proofs.Plans.{refused, early, sixth, seventh, taken, no_combiner, some_combiner, entered}
 use Rattle.frame_draw.proofs.accept.Goals as goal
 
@@ -28,11 +31,18 @@ returns-then-not-admitted c =
 pub invariant_of-view : goal.invariant_of-view
 invariant_of-view c = record { sized = (entered _ _ _ _ _ _ _ (sym c.in_ok-entry_refusal.ensures)).sized }
 
-pub invariant_of-shapes-clause-few : goal.invariant_of-shapes-clause-few
-invariant_of-shapes-clause-few c = (entered _ _ _ _ _ _ _ (sym c.in_ok-entry_refusal.ensures)).few
+pub invariant_of-shapes : goal.invariant_of-shapes
+invariant_of-shapes c =
+    let l = c.args.draw.now.lists in
+    record {
+      near = λ e. admitted_near _ _ _ _ (ap (λ (g : Geometry). admitted_of c.in_ok-combiner.combiner g l.vertices.now l.present.now l.indices.now) (sym e) ∙ sym c.if-not-admitted.ensures);
+    }
 
-pub invariant_of-shapes-clause-mixed : goal.invariant_of-shapes-clause-mixed
-invariant_of-shapes-clause-mixed c =
+pub invariant_of-result-clause-few : goal.invariant_of-result-clause-few
+invariant_of-result-clause-few c = (entered _ _ _ _ _ _ _ (sym c.in_ok-entry_refusal.ensures)).few
+
+pub invariant_of-result-clause-mixed : goal.invariant_of-result-clause-mixed
+invariant_of-result-clause-mixed c =
     new_mixes _ _ (sym c.new.ensures.value ∙ some_combiner _ c.ok_or.ensures.value c.in_ok-combiner.was)
 
 pub returns : goal.returns
