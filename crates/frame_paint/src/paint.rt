@@ -64,19 +64,19 @@ impl Paint {
 // What is known ahead of a pixel of this colour. The bytes of an opaque one are those that all pixels have, else its own, which are worked out only then.
 #[tactic(auto, unfolding(frame_pixel::specs::Coloring::ColoringOf))]
 pub fn coloring_of(
-    mode: RenderMode,
-    combiner: Combiner,
+    mode: &RenderMode,
+    combiner: &Combiner,
     own: Option<Colors>,
     color: Rgba,
 ) -> Coloring
-    requires { Own mode combiner own }
-    ensures { ColoringOf mode combiner color result }
+    requires { Own mode.now combiner.now own }
+    ensures { ColoringOf mode.now combiner.now color result }
 {
-    if blender::opaque(mode, color.a) {
+    if blender::opaque(*mode, color.a) {
         return Coloring::Opaque(own.unwrap_or_else(|| Colors::from(color)));
     }
-    if layered(mode, color.a) {
-        return Coloring::Layered(layer_of(mode, combiner, color));
+    if layered(*mode, color.a) {
+        return Coloring::Layered(layer_of(*mode, *combiner, color));
     }
     Coloring::Blended
 }

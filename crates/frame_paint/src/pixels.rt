@@ -27,22 +27,29 @@ pub fn fragment_source(fragment: Fragment) -> Source
 }
 
 // F1 to F5 at a pixel's place. What is known ahead of it is asked after the bytes are read: so it goes through no memory. It takes these parts of a paint and no paint, since it
-// asks nothing else of one. That the mask is not 0 is a clause, since the definitions to be believed build a Fragment of any mask.
+// asks nothing else of one: mode and combiner as references, since by value a pixel that is blended takes a twentieth longer. That the mask is not 0 is a clause, since the
+// definitions to be believed build a Fragment of any mask.
 pub fn draw_pixel(
     target: &mut Target,
-    mode: RenderMode,
-    combiner: Combiner,
+    mode: &RenderMode,
+    combiner: &Combiner,
     own: Option<Colors>,
     fragment: Fragment,
     pixel: usize,
 )
     requires mask_nonzero { 0 < fragment.mask }
     requires pixel_in_bounds { pixel < length target.old.marks.now }
-    requires own { Own mode combiner own }
-    ensures { DrewOn mode combiner (emits (Some fragment) pixel) target.old target.new 1 }
+    requires own { Own mode.now combiner.now own }
+    ensures { DrewOn mode.now combiner.now (emits (Some fragment) pixel) target.old target.new 1 }
 {
     let before = target.known_pixel(pixel);
     let coloring = coloring_of(mode, combiner, own, fragment.color);
-    let after = frame_pixel::step(mode, combiner, fragment_source(fragment), coloring, before);
+    let after = frame_pixel::step(
+        *mode,
+        *combiner,
+        fragment_source(fragment),
+        coloring,
+        before,
+    );
     target.put_pixel(pixel, after);
 }

@@ -57,8 +57,8 @@ fn row_pixel(
     let pixel = y * target.view.width + x;
     draw_pixel(
         target,
-        paint.mode,
-        paint.combiner,
+        &paint.mode,
+        &paint.combiner,
         paint.own,
         fragment,
         pixel as usize,
