@@ -66,10 +66,10 @@ impl Paint {
 pub fn coloring_of(
     mode: &RenderMode,
     combiner: &Combiner,
-    own: Option<Colors>,
+    own: &Option<Colors>,
     color: Rgba,
 ) -> Coloring
-    requires { Own mode.now combiner.now own }
+    requires { Own mode.now combiner.now own.now }
     ensures { ColoringOf mode.now combiner.now color result }
 {
     if blender::opaque(*mode, color.a) {

@@ -27,19 +27,19 @@ pub fn fragment_source(fragment: Fragment) -> Source
 }
 
 // F1 to F5 at a pixel's place. What is known ahead of it is asked after the bytes are read: so it goes through no memory. It takes these parts of a paint and no paint, since it
-// asks nothing else of one: mode and combiner as references, since by value a pixel that is blended takes a twentieth longer. That the mask is not 0 is a clause, since the
+// asks nothing else of one: as references, since by value a pixel that is blended takes a twentieth longer. That the mask is not 0 is a clause, since the
 // definitions to be believed build a Fragment of any mask.
 pub fn draw_pixel(
     target: &mut Target,
     mode: &RenderMode,
     combiner: &Combiner,
-    own: Option<Colors>,
+    own: &Option<Colors>,
     fragment: Fragment,
     pixel: usize,
 )
     requires mask_nonzero { 0 < fragment.mask }
     requires pixel_in_bounds { pixel < length target.old.marks.now }
-    requires own { Own mode.now combiner.now own }
+    requires own { Own mode.now combiner.now own.now }
     ensures { DrewOn mode.now combiner.now (emits (Some fragment) pixel) target.old target.new 1 }
 {
     let before = target.known_pixel(pixel);

@@ -59,7 +59,7 @@ fn row_pixel(
         target,
         &paint.mode,
         &paint.combiner,
-        paint.own,
+        &paint.own,
         fragment,
         pixel as usize,
     );
