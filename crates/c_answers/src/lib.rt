@@ -15,7 +15,7 @@ use refused::Refusal;
 use state::{Rgba, Rgba8};
 use words_pack::Bytes2;
 
-// The number (docs/RULES.md) and the value: a coverage, 1 for yes, a word, or bytes with the first lowest. A number with a value beside it, as C has no Result.
+// The number (docs/RULES.md) and the value: a coverage, 1 for yes, a word, or bytes with the first lowest. The value stands beside the number, as C has no Result.
 #[repr(C)]
 #[derive(Clone, Copy)]
 pub struct Answer {

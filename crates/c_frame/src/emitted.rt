@@ -1,4 +1,4 @@
-// The C interface of the emitted pixels of a draw: one by its place, and a run of them into two lent slices.
+// The C interface of the emitted pixels of a draw: one by its place, and a run of them into two lent slices. The frame stays three slices with its sizes here too, as C lends it.
 ghost use Rattle.std.specs.Prelude.{◌≡◌, List, ℕ};
 ghost use Rattle.frame.specs.Frame.{frame_of};
 ghost use Rattle.frame.specs.Lent.{old, new};

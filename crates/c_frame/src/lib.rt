@@ -76,7 +76,7 @@ impl From<Result<u64, Refusal>> for RanAnswer {
     }
 }
 
-// The draw that C's values ask for.
+// The draw that C's values ask for: they come one by one, as C passes them.
 pub fn draw_call<'a>(
     mode: Mode,
     uniform: CombinerUniform,

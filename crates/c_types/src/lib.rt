@@ -145,6 +145,7 @@ fn alpha_of_number(number: u8) -> AlphaIn
     }
 }
 
+// A selector's number. This and the next are functions and no bare casts, for their contracts.
 #[tactic(auto, unfolding(combiner_inputs::specs::Inputs::color_number))]
 pub fn color_number(color: ColorIn) -> u8
     ensures { result ≡ color_number color }

@@ -40,7 +40,7 @@ pub struct Resolved {
 }
 
 impl Operand {
-    // Every arm names its fields, which makes it long: a copy of a whole struct would go through memory.
+    // Every arm names its fields, though the match is long so: a copy of a whole struct would go through memory.
     #[tactic(auto, unfolding(crate::specs::Resolved::input_by, crate::specs::Resolved::input_of))]
     fn input(self, shade: Rgba) -> Rgba
         ensures { result ≡ input_by self shade }

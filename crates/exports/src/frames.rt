@@ -1,5 +1,5 @@
-// The C interface of the frame: a draw, its emitted pixels, a word read and a run of words over three lent slices of colour bytes, coverages and marks. They are slices
-// and numbers one by one, since C lends them so.
+// The C interface of the frame: a draw, its emitted pixels, a word read and a run of words over three lent slices of colour bytes, coverages and marks. Frame and
+// draw come as slices and numbers one by one, since C lends them so.
 ghost use Rattle.std.specs.Prelude.{◌≡◌};
 ghost use Rattle.frame.specs.Frame.{frame_of};
 ghost use Rattle.frame.specs.Lent.{old, new, before, after};

@@ -116,7 +116,7 @@ pub fn known_pixel(colors: &[u8], coverages: &[u8], marks: &[u8], pixel: usize) 
     }
 }
 
-// Stores a byte that is known. A flag with the byte beside it, for the reason that `store` gives.
+// Stores a byte that is known. The flag stands beside the byte for the reason that `store` gives.
 fn put_byte(bytes: &mut [u8], at: usize, known: bool, byte: u8)
     requires { at < length bytes.old }
     ensures { new bytes ≡ put_if known (old bytes) at byte }
@@ -127,7 +127,7 @@ fn put_byte(bytes: &mut [u8], at: usize, known: bool, byte: u8)
 }
 
 // Stores a pixel: its colours if they are known, its coverage if it is given, and its mark. Flags with values beside them: with an Option for each, a run of pixels laid
-// over the memory's colour takes a twelfth longer. `Long` is said in the contract, here and in `put_pixel`, since bare slices have no type to hold it.
+// over the memory's colour takes up to an eighth longer. `Long` is said in the contract, here and in `put_pixel`, since bare slices have no type to hold it.
 pub fn store(
     colors: &mut [u8],
     coverages: &mut [u8],

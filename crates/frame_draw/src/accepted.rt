@@ -5,7 +5,7 @@ ghost use Rattle.combiner_resolved.specs.Resolved.{Mixed};
 
 use raster_pixel::{Shapes, View};
 
-// Where it may emit pixels and what it draws: of so few triangles that its pixels can be counted, and with a colour for every shade.
+// Where it may emit pixels, and what it draws. It has so few triangles that its pixels can be counted, and its combiner a colour for every shade.
 #[derive(Clone, Copy)]
 pub struct AcceptedDraw<'a> {
     pub view: View,

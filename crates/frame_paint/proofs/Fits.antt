@@ -22,7 +22,7 @@ use Rattle.frame.specs.Fits.{Fit}
 use Rattle.frame.proofs.Fits.{mark_good, put_fit}
 use Rattle.frame_paint.specs.Steps.{source_of, step_frame, draw_list}
 
--- of as many pixels as it has marks
+-- a frame that fits does so with as many pixels as it has marks
 pub fit_own : {n : ℕ} {f : Frame} → Fit n f → Fit (length f.marks) f
 fit_own {f = f} h = subst (λ m. Fit m f) (sym h.marks) h
 

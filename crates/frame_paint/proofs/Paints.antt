@@ -1,5 +1,5 @@
--- The bytes of a paint from the answers that they are made of, where every pixel of a triangle has a paint's colour, and that the shade's alpha has no part in a pixel of an even
--- paint's own colour. Assumes nothing.
+-- The bytes of a paint from the answers that they are made of; that every pixel of a triangle has a paint's colour where no shade is used; and that the shade's alpha has no part
+-- in a pixel of an even paint's own colour. Assumes nothing.
 use mathlib.Core.Path.{◌≡◌, sym, ap, ◌∙◌}
 use mathlib.Core.Bool.{Bool, true, not, ◌&&◌}
 use Prim.Native.Nat.{ℕ}

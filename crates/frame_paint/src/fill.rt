@@ -13,7 +13,7 @@ use crate::paint::Paint;
 use frame_pixel::Colors;
 use frame_pixel::full::{FULL_COVERAGE, Full};
 
-// Whether a full pixel's colour is then known. A flag, and the bytes apart, for the reason that `store` (frame) gives.
+// Whether a full pixel's colour is then known. It is a flag, and the bytes stand apart, for the reason that `store` (frame) gives.
 fn full_known(full: Full, mark: u8, covered: bool) -> bool
     ensures { result ≡ (if full.layered then color_marked mark else full.sure || covered) }
 {
@@ -24,7 +24,7 @@ fn full_known(full: Full, mark: u8, covered: bool) -> bool
     }
 }
 
-// Its bytes if so; bytes and no Option, for the same reason.
+// Its bytes if so. They are bytes and no Option, for the same reason.
 fn full_colors(colors: &[u8], marks: &[u8], full: Full, pixel: usize) -> Colors
     requires pixel_in_bounds { pixel < length marks.now }
     requires color_there { ColorThere colors.now marks.now pixel }

@@ -35,7 +35,8 @@ pub struct Paint {
 }
 
 impl Paint {
-    // That the combiner has a colour for every shade is a clause, here and above, and no ghost field: a type would ask it of callers that need it not.
+    // That the combiner has a colour for every shade is a clause, here and in the crates above, and no ghost field of Paint or Shapes: these types would ask it of callers that
+    // need it not.
     pub fn new(mode: RenderMode, combiner: Combiner) -> Paint
         requires { Mixed combiner }
         ensures same_mode { result.mode ≡ mode }

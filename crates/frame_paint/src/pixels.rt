@@ -12,7 +12,8 @@ use frame_pixel::Colors;
 use raster_pixel::Fragment;
 use state::RenderMode;
 
-// What the rules look at of an emitted pixel.
+// What the rules look at of an emitted pixel. That its mask is not 0 is a clause, here, below and in rasterize_slow's sinks, since the definitions to be believed build a Fragment
+// of any mask.
 #[tactic(auto, using(num_bits::proofs::Masks::ones_range))]
 pub fn fragment_source(fragment: Fragment) -> Source
     requires { 0 < fragment.mask }
@@ -26,9 +27,8 @@ pub fn fragment_source(fragment: Fragment) -> Source
     }
 }
 
-// F1 to F5 at a pixel's place. What is known ahead of it is asked after the bytes are read: so it goes through no memory. It takes these parts of a paint and no paint, since it
-// asks nothing else of one: as references, since by value a pixel that is blended takes a twentieth longer. That the mask is not 0 is a clause, since the
-// definitions to be believed build a Fragment of any mask.
+// F1 to F5 at a pixel's place. What is known ahead of it is asked after the bytes are read: so it goes through no memory. The function takes three parts of a paint and no Paint,
+// since it asks nothing else of one. They are references, since by value a pixel that is blended takes a twentieth longer.
 pub fn draw_pixel(
     target: &mut Target,
     mode: &RenderMode,

@@ -66,6 +66,6 @@ abbrev pub set_up_masks : Bool → Scissor → ℕ → ℕ → Option (Tri × Li
 set_up_masks antialias s w h None = []
 set_up_masks antialias s w h (Some p) = shape_masks antialias p.0 s w h
 
--- those of an accepted draw
+-- those of a draw
 abbrev pub masks_as : View → Shapes → List Masked
 masks_as v s = geometry_masks s.mode.antialias s.cull v.scissor v.width v.height s.lists.vertices.now s.lists.present.now s.lists.indices.now s.geometry

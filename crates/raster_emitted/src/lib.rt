@@ -1,7 +1,7 @@
 // The pixels that a draw emits, by number and sample mask alone: counted, and listed in two lent slices from one of them on. Nothing is drawn and no colour is worked
 // out; a run of full pixels is passed by its length. It is a walk of its own beside rasterize's: what the two have in common are loops of a few lines, and a row's
-// shades, runs by the paint, and the stop at the limit differ, so that one walk over a trait would have more in its trait than in common. No colour is asked for: a draw whose
-// combiner has none for some shade, or of any number of triangles, is counted like any other.
+// shades, runs by the paint, and the stop at the limit differ, so that one walk over a trait would have more in its trait than in common. Neither colours
+// nor few triangles are asked for: a draw whose combiner has no colour for some shade, or that has any number of triangles, is counted like any other.
 #![tactic(auto)]
 
 ghost use Rattle.std.specs.Prelude.{◌≡◌};

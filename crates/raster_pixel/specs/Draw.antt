@@ -1,4 +1,4 @@
--- Inner vocabulary. What an accepted draw emits, as the code has the draw: where it may, and what it draws. Definitions only.
+-- Inner vocabulary. What a draw emits, as the code has the draw: where it may, and what it draws. Definitions only.
 use Rattle.std.specs.Prelude.{List}
 use Rattle.raster_pixel.specs.declared.shapes.Shapes.{Shapes}
 use Rattle.raster_pixel.specs.declared.view.View.{View}

@@ -15,7 +15,7 @@ use state::Rgba;
 
 pub mod lists; // the lists of a draw, and admitted
 pub mod row; // a row between its edges, and its parts
-pub mod shapes; // what an accepted draw draws
+pub mod shapes; // what a draw draws
 pub mod view; // a frame's size and a draw's scissor
 
 pub use crate::lists::Lists;

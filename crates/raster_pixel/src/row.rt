@@ -41,7 +41,8 @@ impl Row {
     }
 }
 
-// Where the part of a row that starts at x ends: after pixel x, or after the run of full pixels where it starts. It asks nothing of these pixels, so that it is no method of Row.
+// Where the part of a row that starts at x ends: after pixel x, or after the run of full pixels where it starts. It asks nothing of these pixels, and so it is no method of Row,
+// whose ghost field it does not need.
 pub fn part_end(runs: bool, full: Range, x: u32, end: u32) -> u32
     requires { (x < end) × (full.end ≤ end) }
     ensures within { (x < result) × (result ≤ end) }

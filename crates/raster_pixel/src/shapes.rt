@@ -14,8 +14,8 @@ use raster_edges::Tri;
 use raster_vertex::Vertex;
 use state::RenderMode;
 
-// Triangles near enough that nothing overflows, as those of a draw that number 7 lets through; or a rectangle, or nothing. What else an accepted draw has is said where it
-// is needed: the number of its pixels by one that counts them all, its colours by one that works them out.
+// Triangles near enough that nothing overflows, as those of a draw that number 7 lets through; or a rectangle, or nothing. What else an accepted draw has is a clause where it is
+// needed: few indices of a function that counts every pixel, a colour for every shade of one that works out colours.
 #[derive(Clone, Copy)]
 pub struct Shapes<'a> {
     pub mode: RenderMode,
@@ -27,7 +27,8 @@ pub struct Shapes<'a> {
 }
 
 impl Shapes<'_> {
-    // Triangle i, set up to be drawn. That there are triangles is a clause, here and in its callers: a struct of the draws that have them would be a second Shapes.
+    // Triangle i, set up to be drawn. That there are triangles is a clause, here and in its callers: a struct of the draws that have them would be a second Shapes. And i is a
+    // loop's counter.
     pub fn set_up(&self, i: usize) -> Option<(Tri, [Vertex; 3])>
         requires triangles { self.now.geometry ≡ Triangles }
         requires listed { i < length self.now.lists.indices.now / 3 }

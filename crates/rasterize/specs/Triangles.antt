@@ -14,7 +14,7 @@ use Rattle.frame_paint.specs.declared.paint.Paint.{Paint}
 abbrev pub Flat : Paint → Bool → Type 0
 Flat paint flat = flat ≡ true → (paint.even ≡ true) × ((s : Rgba) → color_of paint.combiner s ≡ color_value paint.color)
 
--- triangle i of an accepted draw
+-- triangle i of a draw
 abbrev pub triangle_of : Paint → Shapes → View → ℕ → List Emit
 triangle_of paint s v i =
     three_emits paint.mode paint.combiner s.cull v.scissor v.width v.height (triangle_at s.lists.vertices.now s.lists.present.now s.lists.indices.now i)

@@ -26,7 +26,7 @@ fn draw_rectangle(target: &mut Target, paint: &Paint, sides: Sides) -> u64
     draw_shape(target, paint, None, raster_rectangle::outline(sides))
 }
 
-// The pixels of an accepted draw, and their count. The paint is lent all the way down, so that nothing copies it.
+// The pixels of a draw, and their count: with so few indices it fits. The paint is lent all the way down, so that nothing copies it.
 pub fn rasterize(target: &mut Target, shapes: &Shapes) -> u64
     requires few { length shapes.now.lists.indices.now ≤ 12288 }
     requires mixed { Mixed shapes.now.combiner }

@@ -26,14 +26,15 @@ fn draw_triangle(target: &mut Target, paint: &Paint, flat: bool, shapes: &Shapes
     draw_shape(target, paint, shading, shape)
 }
 
-// All triangles of the list. How many indices that has is a clause, here and above, and no ghost field: a type would ask it of callers that need it not.
+// All triangles of the list. How many indices the list has is a clause, here and in both engines' `rasterize`, and no ghost field of Shapes, which would ask it of callers that
+// need it not.
 pub fn draw_triangles(target: &mut Target, paint: &Paint, shapes: &Shapes) -> u64
     requires triangles { shapes.now.geometry ≡ Triangles }
     requires few { length shapes.now.lists.indices.now ≤ 12288 }
     requires mixed { Mixed paint.now.combiner }
     ensures { DrewOn paint.now.mode paint.now.combiner (triangles_of paint.now shapes.now target.old.view) target.old target.new result }
 {
-    // Whether every pixel of a triangle has the paint's colour.
+    // Whether every pixel of a triangle has the paint's colour, and what full pixels of that need is enough for it.
     let flat = paint.even & !combiner_resolved::shaded::uses_shade(paint.combiner);
     let mut n: u64 = 0;
     for i in 0..shapes.lists.indices.len() / 3 {

@@ -48,7 +48,7 @@ module _ {S : Type 0} {took : List Emit → S → S → Type 0} where
     pub sending_done : {i b : ℕ} {t : S} {n : ℕ} → b ≡ i → Sent took (from c a i) s t n → Sent took (from c a b) s t n
     sending_done e l = sent_as (ap (from c a) (sym e)) l
 
--- ---- the most that is emitted: by a pixel one, by a frame's row 1,024, by a shape 1,024 rows, and so by an accepted draw no more than is counted
+-- ---- the most that is emitted: by a pixel one, by a frame's row 1,024, by a shape 1,024 rows, and so by a draw of so few triangles no more than can be counted
 module _ (u : View) (d : Shapes) where
   pixel_most : (shape : Shape) (y x : ℕ) → length (pixel_emits (walk_of u d) shape y x) ≤ 1
   pixel_most shape y x = go (shape_fragment d.mode.antialias d.combiner shape y x)

@@ -82,7 +82,8 @@ fn sample(shape: &Shape, y: u32, x: u32, line: u32, side: u32) -> bool
     }
 }
 
-// The two samples of a line, the left one in the upper bit.
+// The two samples of a line, the left one in the upper bit. This and the next have twins in raster_edges, over the edges of a row: here they are read from the sample up, beside
+// the papers.
 #[tactic(auto, unfolding(crate::specs::Shape::pair_hit))]
 fn pair(shape: &Shape, y: u32, x: u32, line: u32) -> u8
     requires { (x < 1024) × (y < 1024) × (line < 4) × TameShape shape.now }
@@ -216,7 +217,7 @@ fn visit<S: Sink>(sink: &mut S, shapes: &Shapes) -> u64
     }
 }
 
-// The pixels of a draw on the lent frame, and their count: of so few indices it is exact.
+// The pixels of a draw on the lent frame, and their count: with so few indices it is exact.
 pub fn rasterize(target: &mut Target, shapes: &Shapes) -> u64
     requires few { length shapes.now.lists.indices.now ≤ 12288 }
     ensures drew { DrewOn shapes.now.mode shapes.now.combiner (emitted_as target.old.view shapes.now) target.old target.new result }
@@ -225,7 +226,7 @@ pub fn rasterize(target: &mut Target, shapes: &Shapes) -> u64
 }
 
 // The same pixels by number and mask, without a frame: they are counted, and those that are asked for are in their slots. A pixel that
-// has no colour emits nothing, while the list is told by samples alone: so the combiner has a colour for every shade.
+// has no colour emits nothing, while the list is told by samples alone: this is why the combiner is asked for a colour for every shade.
 pub fn list_pixels(slots: &mut Slots, shapes: &Shapes)
     requires { Mixed shapes.now.combiner }
     ensures { ListedIn (masks_as slots.old.view shapes.now) slots.old slots.new }

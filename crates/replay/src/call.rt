@@ -99,7 +99,7 @@ impl Call {
     }
 
     // Whether the port answers a line's arguments as the line does, or None for a line of another form.
-    // It is one match, an arm a call, so that the compiler refuses a call that has no arm; a match on one family would need a default arm.
+    // It is one match, an arm a call, so that the compiler refuses a call that has no arm; a match for each family of calls would need a default arm.
     pub fn agrees(self, mut line: Line<'_>) -> Option<bool> {
         let s = &mut line;
         match self {

@@ -13,7 +13,7 @@ pub enum Call {
     Mask, // one by its place
 }
 
-// Whether a call's number and its values are those that a line has next, behind ` =`.
+// Whether a call's number and its values are those that a line has next, behind ` =`. replay's `held` asks for the line's end too, where slices may follow here.
 fn held(line: &mut Line<'_>, number: u32, values: &[u64]) -> Option<bool> {
     line.skip(b" =")?;
     let mut same = line.read::<u32>()? == number;
@@ -24,7 +24,7 @@ fn held(line: &mut Line<'_>, number: u32, values: &[u64]) -> Option<bool> {
 }
 
 // Here and below the fields of a frame are spelled out: the C interface takes a frame as plain slices. Line, engine and frame stay three: the line is read, the engine is the
-// replay's, and the frame is drawn on.
+// replay's, and the frame is drawn on or read.
 fn draw(line: &mut Line<'_>, engine: u8, frame: &mut Frame) -> Option<bool> {
     let draw: Draw = line.read()?;
     let answer = c_frame::draw(

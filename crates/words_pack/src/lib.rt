@@ -222,7 +222,7 @@ fn encode_literal(
     }
 }
 
-// A byte by the column's parity for one-byte pixels, else the packed word.
+// A byte by the column's parity for one-byte pixels, else the packed word. words_run chooses the byte itself, as its `read` says.
 #[tactic(auto, unfolding(crate::specs::Writer::color_of))]
 fn encode_color(
     layout: ImageLayout,

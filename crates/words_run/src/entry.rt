@@ -95,7 +95,7 @@ impl<'a> Entries<'a> {
         self.numbers[i] = number;
     }
 
-    // The entries from `start` up to `end`, turned away with one number: none where they end before they start. Two numbers and no Range, as the loop over a run has them.
+    // The entries from `start` up to `end`, turned away with one number: none if `end` is before `start`. They are two numbers and no Range, since its callers have them apart.
     pub fn fill(&mut self, start: usize, end: usize, refusal: Refusal)
         requires { end ≤ length self.old.numbers.now }
         ensures same { Same self.old self.new }
