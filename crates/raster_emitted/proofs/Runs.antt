@@ -3,9 +3,11 @@ use Prim.Native.Nat.{ℕ, ◌+◌, ◌-◌, ◌≤◌, ◌<◌, min}
 use mathlib.Core.Path.{◌≡◌, refl, sym, ap, ◌∙◌}
 use mathlib.Core.List.{List}
 use native.Mathlib.Omega.{arith}
-use lib.ListN.{length, get_or}
+use lib.ListN.{length, get_or, set, length-set}
+use Rattle.std.proofs.lemmas.Grind.{get_or-set_at}
+use Rattle.std.proofs.lemmas.List.{get_or-set_other}
 use Rattle.raster_pixel.proofs.Parts.{each_length, each_at}
-use Rattle.raster_emitted.specs.Filled.{Places, Filled}
+use Rattle.raster_emitted.specs.Filled.{Places, places_of, Filled}
 use Rattle.raster_emitted.specs.Masked.{Masked, no_pixel}
 use Rattle.raster_emitted.specs.Shapes.{run_masks}
 use Rattle.raster_emitted.specs.Listed.{Window, ListedPart}
@@ -32,6 +34,18 @@ module _ (number : ℕ → ℕ) (mask : ℕ) {before : Places} where
   filled_none lo =
       record { pixels = refl; masks = refl; written = λ i p q. absurd (omega arith); below = λ i p. refl; above = λ i p. refl }
 
+  filled_one :
+      {lo q : ℕ} → q ≡ number lo → lo < length before.pixels → lo < length before.masks
+      → Filled number mask lo (lo + 1) before (places_of (set before.pixels lo q) (set before.masks lo mask))
+  filled_one {lo} {q} e a b =
+      record {
+        pixels = length-set before.pixels lo q;
+        masks = length-set before.masks lo mask;
+        written = λ i c d. grind (arith, get_or-set_at);
+        below = λ i c. grind (arith, get_or-set_other);
+        above = λ i c. grind (arith, get_or-set_other);
+      }
+
 -- the slots of a run: the first is that of the run's first pixel, or slot 0, where the run's first pixels have none
 module _ (v : Window) (p count : ℕ) {n mask : ℕ} {before after : Places} where
   pub run_listed :
@@ -50,6 +64,15 @@ module _ (v : Window) (p count : ℕ) {n mask : ℕ} {before after : Places} whe
         earlier = λ i l a. d.below i (omega arith);
         later = λ i l a. d.above i (omega arith);
       }
+
+-- one pixel in its slot
+module _ (v : Window) (p mask : ℕ) {n : ℕ} {before : Places} where
+  pub one_listed :
+      n < v.limit → v.first ≤ n → n - v.first < length before.masks → length before.pixels ≡ length before.masks
+      → ListedPart v (run_masks mask p (p + 1)) n (n + 1) before (places_of (set before.pixels (n - v.first) p) (set before.masks (n - v.first) mask))
+  one_listed l f s e =
+      run_listed v p 1 {passed = v.first - n} (omega arith) (omega arith) (omega arith) (omega arith) refl
+      (filled_one (λ (i : ℕ). p + (v.first - n) + (i - (n - v.first))) mask (omega arith) (omega arith) s)
 
 -- a run that has no slots
 module _ (v : Window) (mask p count : ℕ) {n : ℕ} {before : Places} where

@@ -27,6 +27,10 @@ impl Slots<'_> {
         requires small { pixel + more < 4294967296 }
         ensures { ListedIn (run_masks mask pixel (pixel + more)) self.old self.new }
     {
+        if more == 1 {
+            self.list_pixel(pixel, mask);
+            return;
+        }
         let before = self.count;
         let end = counted(self.limit, before, more);
         self.count = end;
@@ -43,6 +47,25 @@ impl Slots<'_> {
         // Pixels before the first slot's are counted only.
         let passed = self.first.saturating_sub(before) as u32;
         fill(self.pixels, self.masks, start, stop, pixel + passed, mask);
+    }
+
+    // A run of one, as most are: without the bounds of a longer one triangles are listed faster.
+    fn list_pixel(&mut self, pixel: u32, mask: u8)
+        ensures { ListedIn (run_masks mask pixel (pixel + 1)) self.old self.new }
+    {
+        let before = self.count;
+        if before == self.limit {
+            return;
+        }
+        self.count = before + 1;
+        if before < self.first {
+            return;
+        }
+        let slot = before - self.first;
+        if slot < self.masks.len() as u64 {
+            self.pixels[slot as usize] = pixel;
+            self.masks[slot as usize] = mask;
+        }
     }
 
     // How many slots a pixel has reached: the first ones.
