@@ -128,7 +128,7 @@ pub fn draw(
     DrawnAnswer::from(answer)
 }
 
-// How C asks for words to be written.
+// How C asks for words to be written: by four values, of which no From could be made.
 fn format_from(fmt: u8, siz: u8, rgb_dither: u8, big_endian: bool) -> Format
     ensures { result ≡ format_from fmt siz rgb_dither big_endian }
 {

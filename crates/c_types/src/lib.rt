@@ -193,6 +193,7 @@ impl From<Mode> for RenderMode {
     }
 }
 
+// This and the next are functions and no From: both types are other crates'.
 #[tactic(auto, unfolding(crate::specs::Convert::cycle_from))]
 fn cycle(numbers: [u8; 8]) -> CycleSel
     ensures { result ≡ cycle_from numbers }
@@ -283,6 +284,7 @@ pub fn byte_order(big_endian: bool) -> FramebufferEncoding
     }
 }
 
+// Of a colour or a depth, as C says. `Format::writer` (words_read) makes one of a colour's format.
 pub fn image_writer(fmt: u8, siz: u8, width: u32, depth: bool) -> Writer
     ensures { result ≡ writer_of fmt siz width depth }
 {

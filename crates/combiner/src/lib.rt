@@ -67,7 +67,7 @@ fn color_is_flat(s: CycleSel) -> bool
         )
 }
 
-// The same of alpha.
+// The same of alpha, whose inputs are another enum.
 #[tactic(auto, unfolding(crate::specs::Strict::zero_alpha, crate::specs::Strict::constant_alpha, combiner_inputs::specs::Inputs::alpha_number))]
 fn alpha_is_flat(s: CycleSel) -> bool
     ensures { result ≡ (zero_alpha s.aa && zero_alpha s.ab && zero_alpha s.ac && constant_alpha s.ad) }

@@ -192,7 +192,7 @@ pub fn alpha_c(idx: u32) -> AlphaIn
     }
 }
 
-// One cycle's selectors. A slot's field has a place of its own in each cycle, in the upper word l or in the lower word h.
+// One cycle's selectors. A slot's field has a place of its own in each cycle, in the upper word l or in the lower word h. One function by `second`, so that one law serves both.
 fn decode_cycle(l: u32, h: u32, second: bool) -> CycleSel
     ensures { result ≡ cycle_of second l h }
 {

@@ -23,7 +23,7 @@ pub enum Kind {
     Alpha, // the shade's alpha in all four channels
 }
 
-// One of the inputs a, b, c and d.
+// One of the inputs a, b, c and d. The constant stands beside the kind, though two kinds do not read it: each channel's source is then told by one match.
 #[derive(Clone, Copy)]
 pub struct Operand {
     pub kind: Kind,

@@ -82,7 +82,8 @@ fn rasterize_by(engine: Engine, target: &mut Target, draw: &AcceptedDraw) -> u64
     }
 }
 
-// A draw: the pixels that it emits, one after the other, and their count; or the first of numbers 1 to 7 that holds.
+// A draw: the pixels that it emits, one after the other, and their count; or the first of numbers 1 to 7 that holds. The engine is no part of a DrawCall, here and in
+// frame_emitted: it is how the draw is carried out, and shows in no answer.
 pub fn draw(
     engine: Engine,
     width: u32,

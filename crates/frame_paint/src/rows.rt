@@ -39,8 +39,8 @@ fn fragment(paint: &Paint, shades: Option<ShadeRow>, mask: u8, x: u32) -> Option
     })
 }
 
-// Pixel x of row y, with these samples: how many are emitted. Here and below, target and paint stay two parameters, since one is written and the other only read; and that y
-// and the columns are inside the view is a bound of an index, as any slice asks for.
+// Pixel x of row y, with these samples: how many are emitted. Here and below, target, paint and shades stay three parameters: the target is written, the paint is the
+// draw's and the shades are a row's. That y and the columns are inside the view is a bound of an index, as any slice asks for.
 fn row_pixel(
     target: &mut Target,
     paint: &Paint,

@@ -17,7 +17,8 @@ use state::{RenderMode, Rgba, Rgba8};
 
 pub mod full; // pixels with all eight samples
 
-// A pixel of the frame. That a known coverage is at most 7 is a clause and no ghost field, since definitions make a Pixel of any bytes.
+// A pixel of the frame: its five bytes, with a mark beside them and not Options, as the frame has them and as the definitions to be believed speak of it. That a known coverage
+// is at most 7 is a clause and no ghost field, since definitions make a Pixel of any bytes.
 #[derive(Clone, Copy)]
 pub struct Pixel {
     pub red: u8,
@@ -55,7 +56,8 @@ impl Pixel {
     }
 }
 
-// What is known of a pixel's colour ahead of the memory: the bytes of an opaque one, a layer over the memory's colour, or nothing, so that it is blended.
+// What is known of a pixel's colour ahead of the memory: the bytes of an opaque one, a layer over the memory's colour, or nothing, so that it is blended. An enum, whose one case
+// is then carried out: as a struct with every answer worked out, pixels ran at 0.5 to 0.7 of their speed.
 #[derive(Clone, Copy)]
 pub enum Coloring {
     Opaque(Colors),
@@ -313,7 +315,8 @@ fn assemble(color: Option<Colors>, coverage: Coverage, old: Pixel) -> Pixel
     }
 }
 
-// F1 to F5, one by one: the bytes at an emitted pixel's place after it. Numbers 1 to 3 leave no known coverage above 7.
+// F1 to F5, one by one: the bytes at an emitted pixel's place after it. Numbers 1 to 3 leave no known coverage above 7. Source and bytes stay two parameters, here, above and below:
+// one is what is emitted, and the other what was there.
 pub fn rules(mode: RenderMode, combiner: Combiner, source: Source, bytes: Pixel) -> Pixel
     requires samples { (1 ≤ source.count) × (source.count ≤ 8) }
     requires small { or_zero (coverage_at bytes) ≤ 7 }

@@ -106,7 +106,7 @@ fn alpha_check(combiner: Combiner, triangle: Triangle) -> Result<(), Check>
     Ok(())
 }
 
-// The first of checks 2 to 6 of a triangle that fails, in the Rust's order.
+// The first of checks 2 to 6 of a triangle that fails, in the Rust's order. Combiner and triangle, or lists, stay two parameters: one gives the colours, and the other the vertices.
 #[tactic(auto, unfolding(crate::specs::Check::check_of))]
 pub fn checks(combiner: Combiner, triangle: Triangle) -> Result<(), Check>
     ensures { check_number result ≡ check_of combiner triangle.a triangle.b triangle.c }

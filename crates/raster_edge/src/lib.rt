@@ -98,7 +98,8 @@ fn outer(a: i64, b: i64, low: bool) -> i64
     if low { a.min(b) } else { a.max(b) }
 }
 
-// The first eighth that line s of four covers if `low`, else the last. A line that covers none bounds nothing: it is put past pixel 1023, or before pixel 0.
+// The first eighth that line s of four covers if `low`, else the last. A line that covers none bounds nothing: it is put past pixel 1023, or before pixel 0,
+// and is no None, since `outermost` takes the least or the greatest of four.
 fn tip(l: [i64; 4], r: [i64; 4], s: usize, low: bool) -> i64
     requires { s < 4 }
     ensures { result ≡ tip_of low l r s }

@@ -139,7 +139,7 @@ fn lines_at(t: Tri, y: u32) -> Edges
     }
 }
 
-// What lies between two edges on four quarter lines from n.
+// What lies between two edges on four quarter lines from n. `span_at` (raster_edge) exchanges left and right as this does, of one line where this is of four.
 #[tactic(auto, unfolding(crate::specs::Lines::row_of))]
 fn row_at(major: Edge, other: Edge, rightward: bool, n: u32) -> Edges
     requires { (Tame major) × (Tame other) × (n < 16380) }

@@ -17,7 +17,8 @@ pub struct Lists<'a> {
     pub indices: &'a [u32],
 }
 
-// Triangle i, if all its vertices are there. It and the next are functions and no methods: a host reaches a method of Lists, and these ask that there be a triangle i.
+// Triangle i, if all its vertices are there. By its number, here and in the rasterisers' loops, and not by chunks of indices: so the definitions name it. It
+// and the next are functions and no methods: a host reaches a method of Lists, and these ask that there be a triangle i.
 #[tactic(auto, unfolding(crate::specs::Admitted::triangle_at))]
 pub fn triangle_at(lists: &Lists, i: usize) -> Option<Triangle>
     requires { 3 * i + 2 < length lists.now.indices.now }

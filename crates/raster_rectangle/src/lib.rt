@@ -17,7 +17,7 @@ pub struct Sides {
     pub bottom: f32,
 }
 
-// Whether p lies in low..high: never, if one of the three is a NaN.
+// Whether p lies in low..high: never, if one of the three is a NaN. By hand, as `contains` of a vertex (raster_vertex), and for its reason.
 fn within(low: f32, high: f32, p: f32) -> bool
     ensures { result ≡ within_of low high p }
 {
@@ -41,7 +41,7 @@ fn quarters_before(side: f32) -> u32
     if n as f32 * 0.25 < side { n + 1 } else { n }
 }
 
-// The first quarter that lies at the side or after it: none, which is 4096, if it is a NaN.
+// The first quarter that lies at the side or after it: none, which is 4096, if it is a NaN. It is no None, since the edges of an outline are made of it.
 fn first_quarter(side: f32) -> u32
     ensures { From side result }
 {

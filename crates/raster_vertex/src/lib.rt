@@ -110,7 +110,8 @@ fn at_or_before(a: Vertex, b: Vertex) -> bool
 }
 
 // From the top down; vertices at one position keep their order. At most three compares: b against c, then a against the
-// first of them, and where it is not before that, against the other. (std's sorts take memory, and the library has no heap.)
+// first of them, and where it is not before that, against the other. (Of std's sorts the one that keeps that order takes
+// memory, and the library has no heap.)
 pub fn sort(v: [Vertex; 3]) -> [Vertex; 3]
     ensures { result ≡ sorted v }
 {

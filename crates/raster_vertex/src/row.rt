@@ -26,6 +26,7 @@ pub struct ShadeRow {
     pub den: f32,
 }
 
+// `edge` in parts: what does not turn on the column is worked out once a row.
 #[tactic(auto, unfolding(crate::specs::Row::line_of))]
 fn line_between(a: Vertex, b: Vertex, py: f32) -> Line
     ensures { result ≡ line_of a b py }

@@ -23,8 +23,8 @@ fn held(line: &mut Line<'_>, number: u32, values: &[u64]) -> Option<bool> {
     Some(same)
 }
 
-// Here and below the fields of a frame are spelled out: the C interface takes a frame as plain slices. Line, engine and frame stay three: the line is read, the engine is the
-// replay's, and the frame is drawn on or read.
+// Here and below the fields of a frame are spelled out: the C interface takes a frame as plain slices. Line, engine and frame stay three: the line is read,
+// the engine, by its number in the C interface, is the replay's, and the frame is drawn on or read.
 fn draw(line: &mut Line<'_>, engine: u8, frame: &mut Frame) -> Option<bool> {
     let draw: Draw = line.read()?;
     let answer = c_frame::draw(

@@ -12,7 +12,7 @@ use refused::Refusal;
 use state::Rgba8;
 use words_pack::{Bytes2, FramebufferEncoding, ImageLayout, Writer};
 
-// How words are written.
+// How words are written: by the numbers of the console's words, of which each has a meaning.
 #[derive(Clone, Copy)]
 pub struct Format {
     pub fmt: u8,
