@@ -180,7 +180,7 @@ pub fn inside(l: i64, r: i64, n: u32) -> bool
     ensures { result ≡ inside l r n }
 {
     let p = n as i64;
-    l <= p && p < r
+    (l..r).contains(&p)
 }
 
 // 1 where it does, and 0 where not.

@@ -33,7 +33,7 @@ impl Row {
         requires { x < 65536 }
         ensures { result ≡ mask_of self.now.edges x }
     {
-        if self.full.start <= x && x < self.full.end {
+        if (self.full.start..self.full.end).contains(&x) {
             ALL
         } else {
             raster_edges::mask(self.edges, x)
