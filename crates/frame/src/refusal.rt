@@ -74,6 +74,7 @@ fn see(marks: &[u8]) -> Seen
 }
 
 // An unmarked coverage is not loaded. The mark itself was checked before.
+// By itself and no method of Marked: there the slices are known to be of one length, and a coverage could be loaded before its mark was asked.
 #[tactic(auto, using(crate::proofs::Loads::mark_low))]
 fn mark_ok(coverages: &[u8], marks: &[u8], i: usize) -> bool
     requires marked { (i < length marks.now) × (slice_index marks.now i ≤ highest_mark) }
