@@ -34,6 +34,7 @@ pub fn coverage(coverages: &[u8], marks: &[u8], pixel: usize) -> u8
 }
 
 // A pixel's colour bytes, if they are known; else none is loaded.
+// If and no then: in a closure the load would stand without the test, which is what lets it be made.
 pub fn known_color(colors: &[u8], marks: &[u8], pixel: usize) -> Option<Colors>
     requires pixel_in_bounds { pixel < length marks.now }
     requires color_there { ColorThere colors.now marks.now pixel }
