@@ -150,15 +150,12 @@ fn memory_of(bytes: Pixel) -> Option<Rgba>
     ensures there { is_some result ≡ color_marked bytes.mark }
     ensures color { or_zeros result ≡ memory_of (color_marked bytes.mark) bytes }
 {
-    if color_marked(bytes.mark) {
-        return Some(Rgba {
-            r: unit_of(bytes.red),
-            g: unit_of(bytes.green),
-            b: unit_of(bytes.blue),
-            a: 0.0,
-        });
-    }
-    None
+    color_marked(bytes.mark).then(|| Rgba {
+        r: unit_of(bytes.red),
+        g: unit_of(bytes.green),
+        b: unit_of(bytes.blue),
+        a: 0.0,
+    })
 }
 
 // F1 to F3 of a pixel that is blended: its colour, if it is then known. Mode and combiner are two parameters, for the reason beside blender's `own_color`.
@@ -227,10 +224,7 @@ pub fn over_colors(layer: Layer, memory: Colors) -> Colors
 fn laid(layer: Layer, bytes: Pixel) -> Option<Colors>
     ensures { result ≡ (if color_marked bytes.mark then Some (over_colors layer (rule_f4 bytes)) else None) }
 {
-    if color_marked(bytes.mark) {
-        return Some(over_colors(layer, bytes.colors()));
-    }
-    None
+    color_marked(bytes.mark).then(|| over_colors(layer, bytes.colors()))
 }
 
 // F1 to F3.
