@@ -40,11 +40,14 @@ impl Tally {
         let mut line = Line::new(text);
         let name = line.name();
         let mut agrees = false;
-        for row in &mut self.rows {
-            if name == Some(row.call.name().as_bytes()) {
-                agrees = row.call.agrees(line).unwrap_or(false);
-                row.counts.count(agrees);
-            }
+        let place = self
+            .rows
+            .iter()
+            .position(|row| name == Some(row.call.name().as_bytes()));
+        if let Some(place) = place {
+            let row = &mut self.rows[place];
+            agrees = row.call.agrees(line).unwrap_or(false);
+            row.counts.count(agrees);
         }
         self.total.count(agrees);
         agrees
