@@ -111,12 +111,10 @@ impl Call {
 
     // The call that a line names, and the line behind its name.
     pub fn named<'a>(text: &'a [u8]) -> Option<(Call, Line<'a>)> {
-        for call in Call::ALL {
-            if let Some(rest) = text.strip_prefix(call.name().as_bytes()) {
-                return Some((call, Line::new(rest)));
-            }
-        }
-        None
+        Call::ALL.into_iter().find_map(|call| {
+            let rest = text.strip_prefix(call.name().as_bytes())?;
+            Some((call, Line::new(rest)))
+        })
     }
 
     // Whether the port answers a line's arguments as the line does, or None for a line of another form.
