@@ -12,7 +12,7 @@ import subprocess
 import sys
 
 ERROR = re.compile(r":\d+:\d+: error|it is not proved that|^fn .*: no proof")
-NAME = re.compile(r"has no field|\(nearest: |that can be named from here|declarations? that depends? on|is not in scope")
+NAME = re.compile(r"has no field|\(nearest: |it calls `[^`]*`.*which (?:is|are) not proved|that can be named from here|declarations? that depends? on|is not in scope")
 
 
 def read(path):
