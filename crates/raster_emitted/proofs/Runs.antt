@@ -22,13 +22,6 @@ run_length mask p count = each_length (spot mask) p count
 pub run_at : (mask p count j : ℕ) → j < count → get_or (run_masks mask p (p + count)) j no_pixel ≡ spot mask (p + j)
 run_at mask p count j h = each_at (spot mask) no_pixel p count j h
 
--- ---- the numbers of a loop: those of slots lo to hi - 1 are written
-pub record Numbered (number : ℕ → ℕ) (lo hi : ℕ) (before after : List ℕ) : Type 0 where
-  pub long : length after ≡ length before
-  pub written : (i : ℕ) → lo ≤ i → i < hi → get_or after i 0 ≡ number i
-  pub below : (i : ℕ) → i < lo → get_or after i 0 ≡ get_or before i 0
-  pub above : (i : ℕ) → hi ≤ i → get_or after i 0 ≡ get_or before i 0
-
 module _ (number : ℕ → ℕ) (mask : ℕ) {before : Places} where
   filled_none : (lo : ℕ) → Filled number mask lo lo before before
   filled_none lo =

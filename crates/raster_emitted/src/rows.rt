@@ -32,7 +32,7 @@ fn list_part(slots: &mut Slots, line: &Line, x: u32, next: u32)
     }
 }
 
-// The pixels from start up to end.
+// The pixels from start up to end, as far as they are counted: an early pixel is found without the rest of its row.
 fn list_row(slots: &mut Slots, line: &Line, start: u32, end: u32)
     requires inside { (start ≤ end) × (end ≤ line.now.width) × (line.now.row.full.end ≤ end) }
     ensures { ListedIn (from (row_masks line.now.antialias line.now.row.edges line.now.width line.now.y) start end) slots.old slots.new }
@@ -40,6 +40,9 @@ fn list_row(slots: &mut Slots, line: &Line, start: u32, end: u32)
     let mut x = start;
     // A step is a pixel or a run of them: no range has such steps.
     while x < end {
+        if slots.count == slots.limit {
+            return;
+        }
         let next = row::part_end(true, line.row.full, x, end);
         list_part(slots, line, x, next);
         x = next;

@@ -80,8 +80,7 @@ impl Slots<'_> {
         ensures { Cleared self.old self.new }
     {
         let start = self.reached();
-        self.pixels[start..].fill(0);
-        self.masks[start..].fill(0);
+        zero(self.pixels, self.masks, start);
     }
 }
 
@@ -101,16 +100,27 @@ pub fn slots_before(first: u64, n: u64, slots: usize) -> usize
     n.saturating_sub(first).min(slots as u64) as usize
 }
 
-// Slots start up to stop: `number` and the numbers after it, and this mask. It takes the slices themselves: in a loop over a field of a &mut struct, what the field
-// holds is read again at each turn.
+// Slots start up to stop: `number` and the numbers after it, and this mask. This and `zero` take the slices themselves: in a loop over a field of a &mut struct, what the
+// field holds is read again at each turn. Both slices are written in one loop, by index: a loop or a `fill` for one alone is compiled to a call of memset, which the library
+// asks of no host; and after a zip or an enumerate of iter_mut a proof knows nothing of what was written.
 fn fill(pixels: &mut [u32], masks: &mut [u8], start: usize, stop: usize, number: u32, mask: u8)
     requires slots { (start ≤ stop) × (stop ≤ length masks.old) × (length pixels.old ≡ length masks.old) }
     requires small { number + (stop - start) < 4294967297 }
     ensures { FilledIn (λ (i : ℕ). number + (i - start)) mask start stop pixels masks }
 {
-    // by index: after a zip or an enumerate of iter_mut a proof knows nothing of what was written
     for i in start..stop {
         pixels[i] = number + (i - start) as u32;
+        masks[i] = mask;
     }
-    masks[start..stop].fill(mask);
+}
+
+// Zeros in the slots from start on.
+fn zero(pixels: &mut [u32], masks: &mut [u8], start: usize)
+    requires { (start ≤ length masks.old) × (length pixels.old ≡ length masks.old) }
+    ensures { FilledIn (λ (i : ℕ). 0) 0 start (length masks.old) pixels masks }
+{
+    for i in start..masks.len() {
+        pixels[i] = 0;
+        masks[i] = 0;
+    }
 }

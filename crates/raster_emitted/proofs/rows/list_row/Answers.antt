@@ -1,10 +1,13 @@
--- A loop over the parts of a row.
+-- A loop over the parts of a row, which ends where the count has come to the limit.
 use native.Mathlib.Omega.{arith}
-use Rattle.raster_emitted.proofs.Listing.{listing_start, listing_by, listing_done}
+use Rattle.raster_emitted.proofs.Listing.{listing_start, listing_by, listing_stop, listing_done}
 use Rattle.raster_emitted.proofs.rows.list_row.Goals as goal
 
 pub loop-x-init : goal.loop-x-init
 loop-x-init c = (omega arith, c.requires.inside.0, listing_start _ _ _)
+
+pub returns-then-slots : goal.returns-then-slots
+returns-then-slots c = let l = c.loop-x.invariant in listing_stop _ _ l.0 l.2 l.1 c.if-slots.true
 
 pub loop-x-preserved : goal.loop-x-preserved
 loop-x-preserved c =

@@ -1,0 +1,8 @@
+-- The slots up to i are zeros.
+use Rattle.std.proofs.Common.{ℕ, ◌≤◌}
+use Rattle.raster_emitted.specs.Filled.{places_of, Filled}
+use Rattle.raster_emitted.proofs.slots.zero.Given as goal
+
+abbrev pub invariant-loop-i : goal.invariant-loop-i
+invariant-loop-i l =
+    (l.start ≤ l.i) × Filled (λ (i : ℕ). 0) 0 l.start l.i (places_of l.fn.pixels l.fn.masks) (places_of l.pixels l.masks)
