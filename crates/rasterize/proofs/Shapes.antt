@@ -111,12 +111,22 @@ module _ (paint : Paint) (shading : Shading) (t : Tri) (s : Scissor) (w h : ℕ)
         → Drew paint.mode paint.combiner m (inside s w h (shape_pixel paint shading t w)) f g n
     rows_drawn ea kept = drew_same (same_as (rows_same ea kept))
 
-    pub shape_drawn :
+    pub pixels_drawn :
         w ≤ 1024 → h ≤ 1024 → (pixel : ℕ → ℕ → List Emit)
         → ((y x : ℕ) → y < 1024 → x < 1024 → Same (step_frame paint.mode paint.combiner) (shape_pixel paint shading t w y x) (pixel y x))
         → Drew paint.mode paint.combiner m (inside s w h (shape_pixel paint shading t w)) f g n
         → Drew paint.mode paint.combiner m (inside s w h pixel) f g n
-    shape_drawn wide high pixel same = drew_same (shape_same wide high pixel same)
+    pixels_drawn wide high pixel same = drew_same (shape_same wide high pixel same)
+
+-- both: from the rows that are not left out to pixels that do the same
+module _ (paint : Paint) (shading : Shading) (t : Tri) (s : Scissor) {w h : ℕ} (wide : w ≤ 1024) (high : h ≤ 1024) where
+  pub shape_drawn :
+      {ar : Area} {rows : Range} {m n : ℕ} {f g : Frame} (pixel : ℕ → ℕ → List Emit)
+      → ((y x : ℕ) → y < 1024 → x < 1024 → Same (step_frame paint.mode paint.combiner) (shape_pixel paint shading t w y x) (pixel y x))
+      → ar ≡ area_of s w h → Kept (no_row t) ar.top ar.bottom rows
+      → Drew paint.mode paint.combiner m (from (shape_row paint shading t w ar.left ar.right) rows.start rows.end) f g n
+      → Drew paint.mode paint.combiner m (inside s w h pixel) f g n
+  shape_drawn pixel same ea kept d = pixels_drawn paint shading t s w h wide high pixel same (rows_drawn paint shading t s w h ea kept d)
 
 -- of the frame that a draw is carried out on
 module _ (paint : Paint) (shading : Shading) (t : Tri) (v : View) {n : ℕ} {before after : Target} where
@@ -126,12 +136,12 @@ module _ (paint : Paint) (shading : Shading) (t : Tri) (v : View) {n : ℕ} {bef
       → DrewOn paint.mode paint.combiner (shape_emits paint shading t v) before after n
   rows_drawn_on ea kept = drew_as (rows_same paint shading t v.scissor v.width v.height ea kept)
 
-  pub shape_drawn_on :
+  pub pixels_drawn_on :
       (pixel : ℕ → ℕ → List Emit)
       → ((y x : ℕ) → y < 1024 → x < 1024 → Same (step_frame paint.mode paint.combiner) (shape_pixel paint shading t v.width y x) (pixel y x))
       → DrewOn paint.mode paint.combiner (shape_emits paint shading t v) before after n
       → DrewOn paint.mode paint.combiner (inside v.scissor v.width v.height pixel) before after n
-  shape_drawn_on pixel same = drew_same_on (shape_same paint shading t v.scissor v.width v.height v.sized.width_small v.sized.height_small pixel same)
+  pixels_drawn_on pixel same = drew_same_on (shape_same paint shading t v.scissor v.width v.height v.sized.width_small v.sized.height_small pixel same)
 
 -- ---- a triangle of a list
 module _ (paint : Paint) (cull : Bool) (v : View) (three : Option Triangle) where
@@ -146,23 +156,31 @@ module _ (paint : Paint) (cull : Bool) (v : View) (three : Option Triangle) wher
       → DrewOn paint.mode paint.combiner (three_emits paint.mode paint.combiner cull v.scissor v.width v.height three) before after n
   triangle_drawn {flat} {t} {o} mixed h e es d =
       drew_as (emitted e)
-      (shape_drawn_on paint (shading_of flat o) t v _ (λ y x hy hx. triangle_pixel paint o t v.width y x flat mixed h) (drew_as (λ i. shape_emits paint (es i) t v) d))
+      (pixels_drawn_on paint (shading_of flat o) t v _ (λ y x hy hx. triangle_pixel paint o t v.width y x flat mixed h) (drew_as (λ i. shape_emits paint (es i) t v) d))
 
   pub triangle_skipped : None ≡ set_up_by cull three → three_emits paint.mode paint.combiner cull v.scissor v.width v.height three ≡ []
   triangle_skipped e = sym (emitted e)
 
 -- ---- a rectangle, of every frame and of the frame that a draw is carried out on
 module _ (paint : Paint) (sides : Sides) {t : Tri} (o : Outlines sides t) {n : ℕ} where
-  pub rectangle_drawn :
+  pub rectangle_pixels_drawn :
       (s : Scissor) {w h m : ℕ} {f g : Frame} → w ≤ 1024 → h ≤ 1024
       → Drew paint.mode paint.combiner m (inside s w h (shape_pixel paint None t w)) f g n
       → Drew paint.mode paint.combiner m (rectangle_emits paint.mode paint.combiner s w h sides) f g n
   unfolding rectangle_emits
-  rectangle_drawn s {w} {h} wide high = shape_drawn paint None t s w h wide high _ (λ y x hy hx. same_as (rectangle_pixel paint sides t w y x o hy hx))
+  rectangle_pixels_drawn s {w} {h} wide high = pixels_drawn paint None t s w h wide high _ (λ y x hy hx. same_as (rectangle_pixel paint sides t w y x o hy hx))
 
-  pub rectangle_drawn_on :
+  pub rectangle_pixels_drawn_on :
       (v : View) {before after : Target}
       → DrewOn paint.mode paint.combiner (shape_emits paint None t v) before after n
       → DrewOn paint.mode paint.combiner (rectangle_emits paint.mode paint.combiner v.scissor v.width v.height sides) before after n
   unfolding rectangle_emits
-  rectangle_drawn_on v = shape_drawn_on paint None t v _ (λ y x hy hx. same_as (rectangle_pixel paint sides t v.width y x o hy hx))
+  rectangle_pixels_drawn_on v = pixels_drawn_on paint None t v _ (λ y x hy hx. same_as (rectangle_pixel paint sides t v.width y x o hy hx))
+
+-- from the rows that are not left out
+module _ (paint : Paint) (s : Scissor) {w h : ℕ} (wide : w ≤ 1024) (high : h ≤ 1024) (sides : Sides) where
+  pub rectangle_drawn :
+      {t : Tri} {ar : Area} {rows : Range} {m n : ℕ} {f g : Frame} → Outlines sides t → ar ≡ area_of s w h → Kept (no_row t) ar.top ar.bottom rows
+      → Drew paint.mode paint.combiner m (from (shape_row paint None t w ar.left ar.right) rows.start rows.end) f g n
+      → Drew paint.mode paint.combiner m (rectangle_emits paint.mode paint.combiner s w h sides) f g n
+  rectangle_drawn {t} o ea kept d = rectangle_pixels_drawn paint sides o s wide high (rows_drawn paint None t s w h ea kept d)
