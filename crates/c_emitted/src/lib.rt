@@ -28,7 +28,7 @@ fn triangle(
     if raster_admitted::out_of_range(t) {
         return None;
     }
-    let shape = rasterize_slow::triangle(cull, t)?;
+    let shape = rasterize_slow::triangle(cull, t);
     rasterize_slow::pixel(antialias, &combiner, &shape, y, x)
 }
 
@@ -73,7 +73,8 @@ pub fn pixel(
     match geometry {
         Geometry::Nothing => None,
         Geometry::Rectangle(sides) => {
-            rasterize_slow::pixel(antialias, &combiner, &Shape::Rectangle(sides), y, x)
+            let shape = Some(Shape::Rectangle(sides));
+            rasterize_slow::pixel(antialias, &combiner, &shape, y, x)
         }
         Geometry::Triangles => indexed(antialias, combiner, cull, lists, i, y, x),
     }

@@ -21,7 +21,6 @@ use Rattle.raster_rectangle.specs.declared.Sides.{Sides}
 use Rattle.raster_pixel.specs.declared.Geometry.{Geometry}
 use Rattle.raster_pixel.specs.declared.Geometry.TheVariants as geometry
 use Rattle.raster_pixel.specs.declared.Scissor.{Scissor}
-use Rattle.raster_pixel.specs.declared.Fragment.{Fragment}
 use Rattle.raster_vertex.specs.declared.Triangle as vertices
 use Rattle.raster_pixel.specs.Admitted.{triangle_at}
 use Rattle.raster_pixel.specs.Area as area
@@ -32,7 +31,7 @@ use Rattle.raster_pixel.proofs.Inside.{inside_area}
 use Rattle.raster_pixel.proofs.SetUp.{set_up_emits-by}
 use Rattle.rasterize_slow.specs.declared.Shape.{Shape}
 use Rattle.rasterize_slow.specs.declared.Shape.TheVariants.{Triangle, Rectangle}
-use Rattle.rasterize_slow.specs.Shape.{shape_fragment, shape_of, triangle_shape, three_shape, Walk, pixel_emits, shape_emits, walk_emits}
+use Rattle.rasterize_slow.specs.Shape.{shape_fragment, optional_fragment, shape_of, triangle_shape, three_shape, Walk, pixel_emits, shape_emits, walk_emits}
 use Rattle.rasterize_slow.proofs.Samples.{triangle_mask, rectangle_mask}
 
 -- ---- a pixel
@@ -45,14 +44,10 @@ module _ (antialias : Bool) (k : Combiner) (y x : ℕ) where
       cond (shown antialias mask) (covered mask (color_of k (shade_of o x y)) (shade_of o x y).a) None
 
   -- of a triangle, which may be skipped
-  abbrev pub optional_fragment : Option Shape → Option Fragment
-  optional_fragment None = None
-  optional_fragment (Some shape) = shape_fragment antialias k shape y x
-
   pub skipped_fragment :
       (cull : Bool) (t : vertices.Triangle)
       → (let o = sorted (t.a ∷ t.b ∷ t.c ∷ []) in let corners = map corner_of o in
-      optional_fragment (triangle_shape cull t)
+      optional_fragment antialias k (triangle_shape cull t) y x
       ≡ cond (culled_of cull t.a t.b t.c || eqb (nat_abs (area_of corners)) 0) None (triangle_fragment antialias k o (edges_of (tri_of corners) y) y x))
   unfolding set_up_of
   skipped_fragment cull t =
@@ -61,7 +56,7 @@ module _ (antialias : Bool) (k : Combiner) (y x : ℕ) where
     where
       go :
           (skipped : Bool) (e : Tri) (o : List Vertex)
-          → optional_fragment (shape_of (cond skipped None (Some (e, o))))
+          → optional_fragment antialias k (shape_of (cond skipped None (Some (e, o)))) y x
           ≡ cond skipped None (triangle_fragment antialias k o (edges_of e y) y x)
       go true e o = refl
       go false e o = triangle-fragment e o

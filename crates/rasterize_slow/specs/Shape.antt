@@ -52,6 +52,11 @@ unfoldable pub shape_fragment : Bool → Combiner → Shape → ℕ → ℕ → 
 shape_fragment antialias k shape y x =
     if shown antialias (shape_mask shape y x) then covered (shape_mask shape y x) (color_of k (shape_shade shape y x)) (shape_shade shape y x).a else None
 
+-- of a shape that may not be there: then nothing
+abbrev pub optional_fragment : Bool → Combiner → Option Shape → ℕ → ℕ → Option Fragment
+optional_fragment antialias k None y x = None
+optional_fragment antialias k (Some shape) y x = shape_fragment antialias k shape y x
+
 -- ---- shapes
 
 -- nothing overflows on its edges

@@ -13,7 +13,7 @@ ghost use Rattle.raster_pixel.specs.Draw.{emitted_as};
 ghost use Rattle.raster_emitted.specs.Shapes.{masks_as};
 ghost use Rattle.raster_emitted.specs.Listed.{ListedIn};
 ghost use Rattle.frame_paint.specs.Pixel.{DrewOn};
-ghost use Rattle.rasterize_slow.specs.Shape.{sample_hit, pair_hit, shape_mask, shape_shade, shape_fragment, TameShape, triangle_shape, three_shape, walk_of, pixel_emits, row_emits, shape_emits, triangles_emits, walk_emits};
+ghost use Rattle.rasterize_slow.specs.Shape.{sample_hit, pair_hit, shape_mask, shape_shade, shape_fragment, optional_fragment, TameShape, triangle_shape, three_shape, walk_of, pixel_emits, row_emits, shape_emits, triangles_emits, walk_emits};
 ghost use Rattle.rasterize_slow.specs.Sent.{Sent};
 
 use crate::sink::Sink;
@@ -120,13 +120,7 @@ fn shade(shape: &Shape, y: u32, x: u32) -> Rgba
 
 // Nothing if no sample is hit; without antialias, nothing unless the upper left one is.
 #[tactic(auto, unfolding(crate::specs::Shape::shape_fragment))]
-pub fn pixel(
-    antialias: bool,
-    combiner: &Combiner,
-    shape: &Shape,
-    y: u32,
-    x: u32,
-) -> Option<Fragment>
+fn fragment(antialias: bool, combiner: &Combiner, shape: &Shape, y: u32, x: u32) -> Option<Fragment>
     requires { (x < 1024) × (y < 1024) × TameShape shape.now }
     ensures { result ≡ shape_fragment antialias combiner.now shape.now y x }
 {
@@ -143,6 +137,20 @@ pub fn pixel(
     })
 }
 
+// The same of a shape that may not be there, as `triangle` answers it: then nothing. The walk below asks for each shape once whether it is there, and not at each pixel.
+pub fn pixel(
+    antialias: bool,
+    combiner: &Combiner,
+    shape: &Option<Shape>,
+    y: u32,
+    x: u32,
+) -> Option<Fragment>
+    requires { (x < 1024) × (y < 1024) × IfSome shape.now TameShape }
+    ensures { result ≡ optional_fragment antialias combiner.now shape.now y x }
+{
+    fragment(antialias, combiner, shape.as_ref()?, y, x)
+}
+
 // ---- every pixel of every row: each function answers how many pixels are emitted, or the largest u64 where they are more. So no sum overflows, and a walk asks for no
 // bound on the triangles.
 
@@ -152,7 +160,7 @@ fn visit_pixel<S: Sink>(sink: &mut S, shapes: &Shapes, shape: &Shape, y: u32, x:
     requires tame { TameShape shape.now }
     ensures sent { Sent (S.took shapes.now) (pixel_emits (walk_of (S.view sink.old) shapes.now) shape.now y x) sink.old sink.new result }
 {
-    let Some(fragment) = pixel(shapes.mode.antialias, &shapes.combiner, shape, y, x) else {
+    let Some(fragment) = fragment(shapes.mode.antialias, &shapes.combiner, shape, y, x) else {
         return 0;
     };
     let number = y * sink.view().width + x;
