@@ -69,12 +69,15 @@ rectangle_mask s y x =
     one : (line side n : ℕ) → n * bit_of (inside_of s (sample_x x line side) (sample_y y line)) ≡ cond (inside_of s (sample_x x line side) (sample_y y line)) n 0
     one line side n = scaled (inside_of s (sample_x x line side) (sample_y y line)) n
 
--- ---- what a pixel emits has a sample
-pub fragment_some : (antialias : Bool) (k : Combiner) (shape : Shape) (y x : ℕ) → IfSome (shape_fragment antialias k shape y x) (λ (f : Fragment). 0 < f.mask)
+-- ---- what a pixel emits has a sample, and its mask is a byte
+abbrev pub HasSample : Fragment → Type 0
+HasSample f = (0 < f.mask) × (f.mask < 256)
+
+pub fragment_some : (antialias : Bool) (k : Combiner) (shape : Shape) (y x : ℕ) → IfSome (shape_fragment antialias k shape y x) HasSample
 unfolding shape_fragment
 fragment_some antialias k shape y x = go (shown antialias (shape_mask shape y x)) refl (color_of k (shape_shade shape y x))
   where
-    go : (b : Bool) → shown antialias (shape_mask shape y x) ≡ b → (c : Option Rgba) → IfSome (cond b (covered (shape_mask shape y x) c (shape_shade shape y x).a) None) (λ (f : Fragment). 0 < f.mask)
+    go : (b : Bool) → shown antialias (shape_mask shape y x) ≡ b → (c : Option Rgba) → IfSome (cond b (covered (shape_mask shape y x) c (shape_shade shape y x).a) None) HasSample
     go false e c = tt
     go true e None = tt
-    go true e (Some c) = shown_some antialias (shape_mask shape y x) e
+    go true e (Some c) = (shown_some antialias (shape_mask shape y x) e, mask_lt shape y x)
