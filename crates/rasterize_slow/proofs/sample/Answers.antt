@@ -1,4 +1,5 @@
-use Rattle.std.proofs.Common.{◌≡◌, ℕ, ◌+◌, ◌*◌, ◌%◌, Bool, ◌&&◌, sym, ap, ◌∙◌, rules, w64, to_z, of_z}
+use Rattle.std.proofs.Common.{◌≡◌, ℕ, ◌+◌, ◌*◌, ◌%◌, Bool, ◌&&◌, sym, ap, ◌∙◌, rules, arith, ℤ}
+use Rattle.std.proofs.lemmas.Grind.{common_steps}
 use lib.Bits.{bit_and, and_mask}
 use Rattle.raster_edge.specs.declared.Span.{Span}
 use Rattle.raster_edges.specs.Sample.{inside}
@@ -7,15 +8,16 @@ use Rattle.raster_rectangle.specs.Rectangle.{quarters, within_of, inside_of, sam
 use Rattle.rasterize_slow.specs.Shape.{sample_hit}
 use Rattle.rasterize_slow.proofs.sample.Goals as goal
 
+-- between two edges, however they were reckoned
+between : {l r : ℤ} {m n : ℕ} {s : Span} {d : Bool} → l ≡ s.l → r ≡ s.r → m ≡ n → inside s.l s.r n ≡ d → inside l r m ≡ d
+between left right at e = (λ i. inside (left i) (right i) (at i)) ∙ e
+
 pub returns-in-Triangle : goal.returns-in-Triangle
 unfolding sample_hit
 returns-in-Triangle c =
     let a = c.args in
-    let span = c.line_at-span.result in
-    let left : to_z w64 (of_z w64 span.l) ≡ span.l = search rules in
-    let right : to_z w64 (of_z w64 span.r) ≡ span.r = search rules in
     let at = ap (λ (n : ℕ). a.x * 8 + n * 2 + a.side * 4) (and_mask a.line 1) in
-    rw c.in-Triangle.is (c.inside.ensures ∙ (λ i. inside (left i) (right i) (at i)) ∙ ap (λ (s : Span). inside s.l s.r (a.x * 8 + a.line % 2 * 2 + a.side * 4)) c.line_at-span.ensures)
+    rw c.in-Triangle.is (c.inside.ensures ∙ between (search rules) (grind (arith, common_steps)) at (ap (λ (s : Span). inside s.l s.r (a.x * 8 + a.line % 2 * 2 + a.side * 4)) c.line_at-span.ensures))
 
 -- a line's odd quarter, by the bit that says so
 across : (s : Sides) (x line side : ℕ) → within_of s.left s.right (quarters (x * 4 + (bit_and line 1 + side * 2))) ≡ within_of s.left s.right (sample_x x line side)
