@@ -3,5 +3,6 @@ pub mod Channel
 pub mod Word
 pub mod Ranges
 pub mod Units
+pub mod Nans
 pub mod Encoded
 pub mod Squares

@@ -164,7 +164,9 @@ pub fn pack_depth(depth: f32) -> u16
     depth_word(depth_of(depth))
 }
 
-// The same of the float that lies in a pixel's four bytes.
+// The same of the float that lies in a pixel's four bytes. A NaN among them needs no test of the bits, since depth_of's tests turn it down; the two laws say of such a
+// test which constant is right.
+#[tactic(auto, using(crate::proofs::Nans::no_nan, crate::proofs::Nans::nan_packs))]
 fn pack_depth_bytes(rgba: Rgba8) -> u16
     ensures { result ≡ pixel_depth_of rgba }
 {
