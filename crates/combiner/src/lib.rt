@@ -183,8 +183,10 @@ pub fn alpha_input(combiner: Combiner, input: AlphaIn, shade: Rgba) -> Option<f3
 }
 
 impl Combiner {
-    // The combiner of a draw, if it gives a colour. Whether it does turns on no shade, so one shade tells.
+    // The combiner of a draw, if it gives a colour. Whether it does turns on no shade, so one shade tells. It is put in the place of its calls: a caller that has a
+    // mode in another form would else make the whole of one, also for a draw with a texture, which has no combiner whatever its mode.
     #[tactic(auto, unfolding(crate::specs::New::new_of, crate::specs::Means::new_call))]
+    #[inline(always)]
     pub fn new(uniform: CombinerUniform, mode: RenderMode) -> Option<Combiner>
         ensures answer { made_means result ≡ new_call uniform mode }
         ensures value { result ≡ new_of uniform mode }
