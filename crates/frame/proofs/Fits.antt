@@ -15,7 +15,7 @@ use Rattle.blender.specs.Blend.{or_zero}
 use Rattle.std.proofs.lemmas.Bool.{and_parts}
 use Rattle.std.specs.Prelude.{None, Some}
 use Rattle.frame.specs.Frame.{Frame, put_pixel}
-use Rattle.frame.specs.Fits.{Fit, Accepted}
+use Rattle.frame.specs.Fits.{Fit, Accepted, AllLoadable}
 use Rattle.frame.specs.Shown.{seen}
 use Rattle.frame.specs.declared.Frame as lent
 use Rattle.frame.specs.Checks.{size_ok, sizes_ok, lengths_ok, mark_ok, marks_ok, frame_refusal}
@@ -122,6 +122,16 @@ accepted f w h p = go (sizes_ok w h) refl (lengths_ok f (w * h)) refl (marks_ok 
         let a = size_range w (and_parts (size_ok w) (size_ok h) hs).0 in
         let b = size_range h (and_parts (size_ok w) (size_ok h) hs).1 in
         record { width = a; height = b; few = pixels_le w h a.1 b.1; fit = lengths_fit f (w * h) hl hm }
+
+-- so that each pixel's bytes are there where they are known
+pub all_loadable : (f : Frame) (w h : ℕ) → Accepted f w h → AllLoadable f
+all_loadable f w h a p l =
+    record {
+      mark = l;
+      color = λ _. omega (arith, l, a.fit.colors, a.fit.marks);
+      coverage = λ _. omega (arith, l, a.fit.coverages, a.fit.marks);
+      sound = a.fit.sound p;
+    }
 
 -- and such a frame is not refused
 pub not_refused : (f : Frame) (w h : ℕ) → Accepted f w h → frame_refusal f w h ≡ 0

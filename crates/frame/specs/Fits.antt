@@ -1,11 +1,12 @@
 -- Inner vocabulary. A frame that numbers 1 to 3 let through, and a pixel as far as it is known. Definitions only.
-use Rattle.std.specs.Prelude.{ℕ, ◌+◌, ◌*◌, ◌≤◌, ◌≡◌, Bool, ◌&&◌, List, length, set, Option, Some, None, if◌then◌else◌, slice_index}
+use Rattle.std.specs.Prelude.{ℕ, ◌+◌, ◌*◌, ◌<◌, ◌≤◌, ◌≡◌, Bool, ◌&&◌, List, length, set, Option, Some, None, if◌then◌else◌, slice_index}
 use Rattle.frame_pixel.specs.declared.Pixel.{Pixel}
 use Rattle.frame_pixel.specs.Marks.{highest_mark, color_marked, coverage_marked, coverage_of}
 use Rattle.blender.specs.Coverage.{Coverage}
 use Rattle.blender.specs.Blend.{or_zero}
 use Rattle.frame_pixel.specs.Rules.{rule_f4, coverage_at}
 use Rattle.frame.specs.Frame.{Frame}
+use Rattle.frame.specs.Loads.{Loadable}
 use Rattle.frame_pixel.specs.declared.Colors.{Colors}
 
 -- three colour bytes and one coverage for each mark
@@ -35,6 +36,10 @@ pub record Accepted (f : Frame) (w h : ℕ) : Type 0 where
   pub height : (1 ≤ h) × (h ≤ 1024)
   pub few : w * h ≤ 1048576
   pub fit : Fit (w * h) f
+
+-- a frame of which is told no more than that each pixel's bytes are there where they are known: nothing of an unmarked pixel's
+abbrev pub AllLoadable : Frame → Type 0
+AllLoadable f = (p : ℕ) → p < length f.marks → Loadable f p
 
 -- a pixel's colour, if it is known
 abbrev pub color_at : Pixel → Option Colors

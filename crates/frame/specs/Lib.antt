@@ -2,6 +2,7 @@
 pub mod Frame
 pub mod Lent
 pub mod Fits
+pub mod Slices
 pub mod Shown
 pub mod Loads
 pub mod Checks

@@ -12,31 +12,31 @@ ghost use Rattle.frame.specs.Lent.{old, new, lent, before, after};
 ghost use Rattle.frame.specs.Fits.{Long, Accepted, color_at, bytes_at, known_pixel, put_if, stored_at, put_known};
 ghost use Rattle.std.specs.Bool.{then_some};
 ghost use Rattle.frame.specs.Loads.{Loadable};
+ghost use Rattle.frame.specs.Slices.{held};
 
 use blender::Coverage;
 use frame_pixel::{Colors, Pixel};
+use load::Slices;
 use refused::Refusal;
 
 pub mod load; // the loads of colour and coverage bytes
 pub mod refusal; // numbers 1 to 3
 
 // A frame to be read, as numbers 1 to 3 let it through. Its slices are private, so that a pixel's bytes are had only as far as they are known; they are three, and not
-// one of pixels, as C lends them.
+// one of pixels, as C lends them. They are `Slices` for the reason that load.rt gives.
 #[derive(Clone, Copy)]
 pub struct Frame<'a> {
     pub width: u32,
     pub height: u32,
-    colors: &'a [u8],
-    coverages: &'a [u8],
-    marks: &'a [u8],
-    pub ghost accepted: { Accepted (frame_of colors.now coverages.now marks.now) width height },
+    slices: Slices<'a>,
+    pub ghost accepted: { Accepted (held slices) width height },
 }
 
 impl<'a> Frame<'a> {
     ghost use Rattle.frame.specs.Shown.{seen, Shows};
 
     // The frame, or the first of numbers 1 to 3 that holds. It takes the slices as a host lends them, since before these numbers nothing says that they are a frame.
-    #[tactic(auto, using(crate::proofs::Fits::accepted))]
+    #[tactic(auto, using(crate::proofs::Fits::accepted, crate::proofs::Fits::all_loadable))]
     pub fn new(
         width: u32,
         height: u32,
@@ -51,9 +51,7 @@ impl<'a> Frame<'a> {
         Ok(Frame {
             width,
             height,
-            colors,
-            coverages,
-            marks,
+            slices: Slices::new(colors, coverages, marks),
         })
     }
 
@@ -61,7 +59,7 @@ impl<'a> Frame<'a> {
     pub fn pixels(&self) -> usize
         ensures { result ≡ length (seen self.now).marks }
     {
-        self.marks.len()
+        self.slices.pixels()
     }
 
     // A pixel's colour bytes, if they are known.
@@ -69,7 +67,7 @@ impl<'a> Frame<'a> {
         requires { pixel < length (seen self.now).marks }
         ensures { result ≡ color_at (pixel_at (seen self.now) pixel) }
     {
-        load::known_color(self.colors, self.marks, pixel)
+        self.slices.color(pixel)
     }
 
     // A pixel's coverage, if it is known.
@@ -78,16 +76,16 @@ impl<'a> Frame<'a> {
         ensures value { result ≡ coverage_at (pixel_at (seen self.now) pixel) }
         ensures low { or_zero result ≤ 7 }
     {
-        load::known_coverage(self.coverages, self.marks, pixel)
+        self.slices.coverage(pixel)
     }
 
-    // A pixel's colour bytes and coverage, if both are known. One test of the mark: with two, a run of words over marks of noise takes 1.4 times as long.
+    // A pixel's colour bytes and coverage, if both are known.
     pub fn bytes(&self, pixel: usize) -> Option<(Colors, u8)>
         requires { pixel < length (seen self.now).marks }
         ensures value { result ≡ bytes_at (pixel_at (seen self.now) pixel) }
         ensures low { IfSome result (λ bytes. bytes.1 ≤ 7) }
     {
-        load::known_bytes(self.colors, self.coverages, self.marks, pixel)
+        self.slices.bytes(pixel)
     }
 }
 
