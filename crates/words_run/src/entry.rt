@@ -6,7 +6,7 @@ ghost use Rattle.refused.specs.Numbers.{number_of};
 ghost use Rattle.words_read.specs.Read.{word_means, read_answer};
 ghost use Rattle.words_read.specs.Format.{args_of};
 ghost use Rattle.words_run.specs.Run.{count_of, answers_from, read_answers, read_at};
-ghost use Rattle.words_run.specs.Entries.{refused_by, halfword, answer_at, answer_in, At};
+ghost use Rattle.words_run.specs.Entries.{answer_of, refused_by, halfword, answer_at, answer_in, At};
 
 use frame::Frame;
 use refused::Refusal;
@@ -81,6 +81,16 @@ pub struct Entries<'a> {
 impl<'a> Entries<'a> {
     ghost use Rattle.words_run.specs.Written.{Same, PutIn, WroteIn};
 
+    fn put_entry(&mut self, i: usize, number: u8, word: Bytes2)
+        requires { i < length self.old.numbers.now }
+        ensures same { Same self.old self.new }
+        ensures entry { PutIn i (answer_of number word) self.old self.new }
+    {
+        self.words[2 * i] = word.0;
+        self.words[2 * i + 1] = word.1;
+        self.numbers[i] = number;
+    }
+
     fn put(&mut self, i: usize, answer: Result<Bytes2, Refusal>)
         requires { i < length self.old.numbers.now }
         ensures same { Same self.old self.new }
@@ -90,20 +100,21 @@ impl<'a> Entries<'a> {
             Ok(word) => (0, word),
             Err(refusal) => (refusal.number(), Bytes2(0, 0)),
         };
-        self.words[2 * i] = word.0;
-        self.words[2 * i + 1] = word.1;
-        self.numbers[i] = number;
+        self.put_entry(i, number, word);
     }
 
     // The entries from `start` up to `end`, turned away with one number: none if `end` is before `start`. They are two numbers and no Range, since its callers have them apart.
+    // Entry by entry, as they are read: by the slices' own `fill` the library would need memset of its host. The number is asked for before, since with its match in the loop
+    // the entries are written one at a time and not sixteen.
     pub fn fill(&mut self, start: usize, end: usize, refusal: Refusal)
         requires { end ≤ length self.old.numbers.now }
         ensures same { Same self.old self.new }
         ensures entries { WroteIn (λ (i : ℕ). refused_by (number_of refusal)) start end self.old self.new }
     {
-        let start = start.min(end);
-        self.words[2 * start..2 * end].fill(0);
-        self.numbers[start..end].fill(refusal.number());
+        let number = refusal.number();
+        for i in start..end {
+            self.put_entry(i, number, Bytes2(0, 0));
+        }
     }
 
     // The first `count` entries, whose pixels are there and which numbers 1 to 9 let through: how many are words.
