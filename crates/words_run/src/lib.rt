@@ -1,7 +1,7 @@
 // A run of words read from the lent frame in one go: each pixel's answer is that of its single read.
 #![tactic(auto)]
 
-ghost use Rattle.std.specs.Prelude.{◌≡◌};
+ghost use Rattle.std.specs.Prelude.{◌≡◌, ◌-◌, min};
 ghost use Rattle.frame.specs.Frame.{frame_of};
 ghost use Rattle.frame.specs.Lent.{old, new};
 ghost use Rattle.words_read.specs.Format.{args_of};
@@ -14,6 +14,13 @@ use words_read::Format;
 mod entry; // the entries of a run
 
 use entry::Entries;
+
+// How many of a run's entries have a pixel: those whose pixel is below `pixels`.
+fn entries_there(pixels: usize, first: usize, entries: usize) -> usize
+    ensures { result ≡ min entries (pixels - first) }
+{
+    entries.min(pixels.saturating_sub(first))
+}
 
 // The words of the pixels from `first` on, as many as there are numbers: each pixel's number and two bytes are those of its single read. It answers how many
 // words were read. Its own refusal is for slices that do not have two bytes for each number; it writes nothing. The frame is three slices, as `read_word` takes it.
@@ -43,7 +50,7 @@ pub fn read_words(
             return Ok(0);
         }
     };
-    let there = count.min(frame.pixels().saturating_sub(first));
+    let there = entries_there(frame.pixels(), first, count);
     let read = entries.read_there(&frame, first, format, there);
     entries.fill(there, count, Refusal::Pixel);
     Ok(read)

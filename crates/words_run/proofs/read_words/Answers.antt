@@ -31,7 +31,7 @@ returns-clause-answer c =
     let a = c.args in
     let f = c.in-Ok.frame in
     let r = args_of a.format a.first in
-    let there : c.min-there.result ≡ min (length a.numbers.now) (length (seen f).marks - a.first) = omega (arith, c.min-there.ensures, c.saturating_sub.ensures, c.pixels.ensures) in
+    let there : c.entries_there-there.result ≡ min (length a.numbers.now) (length (seen f).marks - a.first) = omega (arith, c.entries_there-there.ensures, c.pixels.ensures) in
     let e =
     run_read r f.width f.height (seen f) {ws₀ = a.words.now} {ns₀ = a.numbers.now} c.if-words-count.false (seen_good f) there
     (c.read_there-read.ensures.entries, c.read_there-read.ensures.count) c.fill-2.ensures.entries in
