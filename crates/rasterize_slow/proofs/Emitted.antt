@@ -28,10 +28,11 @@ use Rattle.raster_pixel.specs.Emitted.{Emit, shown, covered, emits, inside, corn
 use Rattle.raster_pixel.specs.Parts.{from}
 use Rattle.raster_pixel.specs.SetUp.{set_up_of, set_up_by, set_up_emits}
 use Rattle.raster_pixel.proofs.Inside.{inside_area}
+use Rattle.raster_pixel.proofs.Parts.{from_empty}
 use Rattle.raster_pixel.proofs.SetUp.{set_up_emits-by}
 use Rattle.rasterize_slow.specs.declared.Shape.{Shape}
 use Rattle.rasterize_slow.specs.declared.Shape.TheVariants.{Triangle, Rectangle}
-use Rattle.rasterize_slow.specs.Shape.{shape_fragment, optional_fragment, shape_of, triangle_shape, three_shape, Walk, pixel_emits, shape_emits, walk_emits}
+use Rattle.rasterize_slow.specs.Shape.{shape_fragment, optional_fragment, shape_of, triangle_shape, three_shape, Walk, pixel_emits, row_emits, shape_emits, walk_emits}
 use Rattle.rasterize_slow.proofs.Samples.{triangle_mask, rectangle_mask}
 
 -- ---- a pixel
@@ -77,14 +78,18 @@ module _ (v : Walk) (s : Scissor) (h : ℕ) (ea : v.area ≡ area.area_of s v.wi
   abbrev w : ℕ
   w = v.width
 
+  -- where there is no shape, no pixel emits anything
+  none : shape_emits v None ≡ []
+  none = from_empty (row_emits v None) v.area.top v.area.bottom (λ y p q. from_empty (pixel_emits v None y) v.area.left v.area.right (λ x p q. refl))
+
   -- every pixel inside the scissor
   by_pixel :
-      (shape : Shape) (pixel : ℕ → ℕ → List Emit) → ((y x : ℕ) → pixel_emits v shape y x ≡ pixel y x) → shape_emits v (Some shape) ≡ inside s w h pixel
+      (shape : Shape) (pixel : ℕ → ℕ → List Emit) → ((y x : ℕ) → pixel_emits v (Some shape) y x ≡ pixel y x) → shape_emits v (Some shape) ≡ inside s w h pixel
   by_pixel shape pixel e =
       (λ i. from (λ (y : ℕ). from (λ (x : ℕ). e y x i) (ea i).left (ea i).right) (ea i).top (ea i).bottom) ∙ sym (inside_area s w h pixel)
 
   set-up-emits : (p : Option (Tri × List Vertex)) → shape_emits v (shape_of p) ≡ set_up_emits mode k s w h p
-  set-up-emits None = refl
+  set-up-emits None = none
   set-up-emits (Some p) = by_pixel _ _ (λ y x i. emits (triangle-fragment mode.antialias k y x p.0 p.1 i) (y * w + x))
 
   three-emits : (cull : Bool) (t : Option vertices.Triangle) → shape_emits v (three_shape cull t) ≡ three_emits mode k cull s w h t

@@ -21,7 +21,7 @@ use Rattle.raster_pixel.specs.Emitted.{shown, covered}
 use Rattle.raster_pixel.proofs.Masks.{shown_some}
 use Rattle.rasterize_slow.specs.declared.Shape.{Shape}
 use Rattle.rasterize_slow.specs.declared.Shape.TheVariants.{Triangle, Rectangle}
-use Rattle.rasterize_slow.specs.Shape.{sample_hit, pair_hit, shape_mask, shape_shade, shape_fragment}
+use Rattle.rasterize_slow.specs.Shape.{sample_hit, pair_hit, shape_mask, shape_shade, shape_fragment, optional_fragment}
 
 pub pair_lt : (shape : Shape) (y x line : ℕ) → pair_hit shape y x line < 4
 unfolding pair_hit
@@ -81,3 +81,8 @@ fragment_some antialias k shape y x = go (shown antialias (shape_mask shape y x)
     go false e c = tt
     go true e None = tt
     go true e (Some c) = (shown_some antialias (shape_mask shape y x) e, mask_lt shape y x)
+
+-- a shape that is not there emits nothing
+pub optional_some : (antialias : Bool) (k : Combiner) (shape : Option Shape) (y x : ℕ) → IfSome (optional_fragment antialias k shape y x) HasSample
+optional_some antialias k None y x = tt
+optional_some antialias k (Some shape) y x = fragment_some antialias k shape y x

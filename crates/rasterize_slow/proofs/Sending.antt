@@ -21,7 +21,7 @@ use Rattle.raster_pixel.proofs.Inside.{bounded}
 use Rattle.raster_pixel.proofs.Parts.{parts_bound, from_none, from_join, from_one}
 use Rattle.rasterize_slow.specs.declared.Shape.{Shape}
 use Rattle.rasterize_slow.specs.declared.Shape.TheVariants.{Rectangle}
-use Rattle.rasterize_slow.specs.Shape.{walk_of, shape_fragment, pixel_emits, row_emits, shape_emits, three_shape, walk_emits}
+use Rattle.rasterize_slow.specs.Shape.{walk_of, optional_fragment, pixel_emits, row_emits, shape_emits, three_shape, walk_emits}
 use Rattle.rasterize_slow.specs.Sent.{counted, Sent}
 
 module _ {S : Type 0} {took : List Emit → S → S → Type 0} where
@@ -50,30 +50,29 @@ module _ {S : Type 0} {took : List Emit → S → S → Type 0} where
 
 -- ---- the most that is emitted: by a pixel one, by a frame's row 1,024, by a shape 1,024 rows, and so by a draw of so few triangles no more than can be counted
 module _ (u : View) (d : Shapes) where
-  pixel_most : (shape : Shape) (y x : ℕ) → length (pixel_emits (walk_of u d) shape y x) ≤ 1
-  pixel_most shape y x = go (shape_fragment d.mode.antialias d.combiner shape y x)
+  pixel_most : (shape : Option Shape) (y x : ℕ) → length (pixel_emits (walk_of u d) shape y x) ≤ 1
+  pixel_most shape y x = go (optional_fragment d.mode.antialias d.combiner shape y x)
     where
       go : (f : Option Fragment) → length (emits f (y * u.width + x)) ≤ 1
       go None = omega arith
       go (Some f) = omega arith
 
-  pixels_most : (shape : Shape) (y a b : ℕ) → length (from (pixel_emits (walk_of u d) shape y) a b) ≤ b - a
+  pixels_most : (shape : Option Shape) (y a b : ℕ) → length (from (pixel_emits (walk_of u d) shape y) a b) ≤ b - a
   pixels_most shape y a b = omega (arith, parts_bound (pixel_emits (walk_of u d) shape y) 1 (pixel_most shape y) (b - a) a)
 
   inside : Bounded (walk_of u d).area u.width u.height
   inside = bounded u.scissor u.width u.height refl
 
-  row_most : (shape : Shape) (y : ℕ) → length (row_emits (walk_of u d) shape y) ≤ 1024
+  row_most : (shape : Option Shape) (y : ℕ) → length (row_emits (walk_of u d) shape y) ≤ 1024
   row_most shape y =
       let a = (walk_of u d).area in
       omega (arith, pixels_most shape y a.left a.right, inside.right_in, u.sized.width_small)
 
-  rows_most : (shape : Shape) (a b : ℕ) → length (from (row_emits (walk_of u d) shape) a b) ≤ (b - a) * 1024
+  rows_most : (shape : Option Shape) (a b : ℕ) → length (from (row_emits (walk_of u d) shape) a b) ≤ (b - a) * 1024
   rows_most shape a b = parts_bound (row_emits (walk_of u d) shape) 1024 (row_most shape) (b - a) a
 
   shape_most : (shape : Option Shape) → length (shape_emits (walk_of u d) shape) ≤ 1048576
-  shape_most None = omega arith
-  shape_most (Some shape) =
+  shape_most shape =
       let a = (walk_of u d).area in
       omega (arith, rows_most shape a.top a.bottom, inside.bottom_in, u.sized.height_small)
 

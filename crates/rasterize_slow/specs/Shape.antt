@@ -87,15 +87,14 @@ pub record Walk : Type 0 where
 abbrev pub walk_of : View → Shapes → Walk
 walk_of v d = record { mode = d.mode; combiner = d.combiner; width = v.width; area = area_of v.scissor v.width v.height }
 
-abbrev pub pixel_emits : Walk → Shape → ℕ → ℕ → List Emit
-pixel_emits v shape y x = emits (shape_fragment v.mode.antialias v.combiner shape y x) (y * v.width + x)
+abbrev pub pixel_emits : Walk → Option Shape → ℕ → ℕ → List Emit
+pixel_emits v shape y x = emits (optional_fragment v.mode.antialias v.combiner shape y x) (y * v.width + x)
 
-abbrev pub row_emits : Walk → Shape → ℕ → List Emit
+abbrev pub row_emits : Walk → Option Shape → ℕ → List Emit
 row_emits v shape y = from (pixel_emits v shape y) v.area.left v.area.right
 
 abbrev pub shape_emits : Walk → Option Shape → List Emit
-shape_emits v None = []
-shape_emits v (Some shape) = from (row_emits v shape) v.area.top v.area.bottom
+shape_emits v shape = from (row_emits v shape) v.area.top v.area.bottom
 
 abbrev pub triangles_emits : Walk → Bool → List Float → List ℕ → List ℕ → List Emit
 triangles_emits v cull vs ps is = from (λ (i : ℕ). shape_emits v (three_shape cull (triangle_at vs ps is i))) 0 (length is / 3)

@@ -13,7 +13,7 @@ ghost use Rattle.raster_pixel.specs.Draw.{emitted_as};
 ghost use Rattle.raster_emitted.specs.Shapes.{masks_as};
 ghost use Rattle.raster_emitted.specs.Listed.{ListedIn};
 ghost use Rattle.frame_paint.specs.Pixel.{DrewOn};
-ghost use Rattle.rasterize_slow.specs.Shape.{sample_hit, pair_hit, shape_mask, shape_shade, shape_fragment, optional_fragment, TameShape, triangle_shape, three_shape, walk_of, pixel_emits, row_emits, shape_emits, triangles_emits, walk_emits};
+ghost use Rattle.rasterize_slow.specs.Shape.{sample_hit, pair_hit, shape_mask, shape_shade, optional_fragment, TameShape, triangle_shape, three_shape, walk_of, pixel_emits, row_emits, shape_emits, triangles_emits, walk_emits};
 ghost use Rattle.rasterize_slow.specs.Sent.{Sent};
 
 use crate::sink::Sink;
@@ -118,12 +118,19 @@ fn shade(shape: &Shape, y: u32, x: u32) -> Rgba
     }
 }
 
-// Nothing if no sample is hit; without antialias, nothing unless the upper left one is.
+// Nothing if no sample is hit; without antialias, nothing unless the upper left one is. A shape that is not there, as `triangle` answers it, holds no sample.
 #[tactic(auto, unfolding(crate::specs::Shape::shape_fragment))]
-fn fragment(antialias: bool, combiner: &Combiner, shape: &Shape, y: u32, x: u32) -> Option<Fragment>
-    requires { (x < 1024) × (y < 1024) × TameShape shape.now }
-    ensures { result ≡ shape_fragment antialias combiner.now shape.now y x }
+pub fn pixel(
+    antialias: bool,
+    combiner: &Combiner,
+    shape: &Option<Shape>,
+    y: u32,
+    x: u32,
+) -> Option<Fragment>
+    requires { (x < 1024) × (y < 1024) × IfSome shape.now TameShape }
+    ensures { result ≡ optional_fragment antialias combiner.now shape.now y x }
 {
+    let shape = shape.as_ref()?;
     let mask = mask(shape, y, x);
     if !raster_pixel::is_shown(antialias, mask) {
         return None;
@@ -137,30 +144,16 @@ fn fragment(antialias: bool, combiner: &Combiner, shape: &Shape, y: u32, x: u32)
     })
 }
 
-// The same of a shape that may not be there, as `triangle` answers it: then nothing. The walk below asks for each shape once whether it is there, and not at each pixel.
-pub fn pixel(
-    antialias: bool,
-    combiner: &Combiner,
-    shape: &Option<Shape>,
-    y: u32,
-    x: u32,
-) -> Option<Fragment>
-    requires { (x < 1024) × (y < 1024) × IfSome shape.now TameShape }
-    ensures { result ≡ optional_fragment antialias combiner.now shape.now y x }
-{
-    fragment(antialias, combiner, shape.as_ref()?, y, x)
-}
-
 // ---- every pixel of every row: each function answers how many pixels are emitted, or the largest u64 where they are more. So no sum overflows, and a walk asks for no
 // bound on the triangles.
 
 // Pixel (x, y) of a shape, if it has something to emit. Sink and shapes stay two parameters, here and below: one is written, and the other only read.
-fn visit_pixel<S: Sink>(sink: &mut S, shapes: &Shapes, shape: &Shape, y: u32, x: u32) -> u64
+fn visit_pixel<S: Sink>(sink: &mut S, shapes: &Shapes, shape: &Option<Shape>, y: u32, x: u32) -> u64
     requires place { (x < (S.view sink.old).width) × (y < (S.view sink.old).height) }
-    requires tame { TameShape shape.now }
+    requires tame { IfSome shape.now TameShape }
     ensures sent { Sent (S.took shapes.now) (pixel_emits (walk_of (S.view sink.old) shapes.now) shape.now y x) sink.old sink.new result }
 {
-    let Some(fragment) = fragment(shapes.mode.antialias, &shapes.combiner, shape, y, x) else {
+    let Some(fragment) = pixel(shapes.mode.antialias, &shapes.combiner, shape, y, x) else {
         return 0;
     };
     let number = y * sink.view().width + x;
@@ -168,9 +161,9 @@ fn visit_pixel<S: Sink>(sink: &mut S, shapes: &Shapes, shape: &Shape, y: u32, x:
     1
 }
 
-fn visit_row<S: Sink>(sink: &mut S, shapes: &Shapes, shape: &Shape, y: u32) -> u64
+fn visit_row<S: Sink>(sink: &mut S, shapes: &Shapes, shape: &Option<Shape>, y: u32) -> u64
     requires row { y < (S.view sink.old).height }
-    requires tame { TameShape shape.now }
+    requires tame { IfSome shape.now TameShape }
     ensures sent { Sent (S.took shapes.now) (row_emits (walk_of (S.view sink.old) shapes.now) shape.now y) sink.old sink.new result }
 {
     let area = sink.view().area();
@@ -181,17 +174,15 @@ fn visit_row<S: Sink>(sink: &mut S, shapes: &Shapes, shape: &Shape, y: u32) -> u
     n
 }
 
-fn visit_rows<S: Sink>(sink: &mut S, shapes: &Shapes, shape: Option<Shape>) -> u64
-    requires tame { IfSome shape TameShape }
-    ensures sent { Sent (S.took shapes.now) (shape_emits (walk_of (S.view sink.old) shapes.now) shape) sink.old sink.new result }
+// A shape that is not there is walked over as any other: triangles times pixels inside the scissor are visited, whatever the triangles are.
+fn visit_rows<S: Sink>(sink: &mut S, shapes: &Shapes, shape: &Option<Shape>) -> u64
+    requires tame { IfSome shape.now TameShape }
+    ensures sent { Sent (S.took shapes.now) (shape_emits (walk_of (S.view sink.old) shapes.now) shape.now) sink.old sink.new result }
 {
-    let Some(shape) = shape else {
-        return 0;
-    };
     let area = sink.view().area();
     let mut n: u64 = 0;
     for y in area.top..area.bottom {
-        n = n.saturating_add(visit_row(sink, shapes, &shape, y));
+        n = n.saturating_add(visit_row(sink, shapes, shape, y));
     }
     n
 }
@@ -206,7 +197,7 @@ fn visit_triangles<S: Sink>(sink: &mut S, shapes: &Shapes) -> u64
     let mut n: u64 = 0;
     for i in 0..shapes.lists.indices.len() / 3 {
         let shape = indexed(shapes, i);
-        n = n.saturating_add(visit_rows(sink, shapes, shape));
+        n = n.saturating_add(visit_rows(sink, shapes, &shape));
     }
     n
 }
@@ -219,7 +210,7 @@ fn visit<S: Sink>(sink: &mut S, shapes: &Shapes) -> u64
         Geometry::Nothing => 0,
         Geometry::Rectangle(sides) => {
             let shape = Some(Shape::Rectangle(sides));
-            visit_rows(sink, shapes, shape)
+            visit_rows(sink, shapes, &shape)
         }
         Geometry::Triangles => visit_triangles(sink, shapes),
     }

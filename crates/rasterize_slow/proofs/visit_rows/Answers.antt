@@ -15,7 +15,7 @@ loop-y-init g c =
     record {
       from_top = omega (arith, top);
       to_bottom = omega (arith, top, (bounded u.scissor u.width u.height refl).down);
-      sent = sending_start (row_emits (walk_of u d) c.in-Some.shape) (walk_of u d).area.top (omega (arith, top)) (g.met.S.Sink.took_none d c.args.sink.now);
+      sent = sending_start (row_emits (walk_of u d) c.args.shape.now) (walk_of u d).area.top (omega (arith, top)) (g.met.S.Sink.took_none d c.args.sink.now);
     }
 
 -- the view is still the same
@@ -23,7 +23,7 @@ pub visit_row-requires-clause-row : goal.visit_row-requires-clause-row
 visit_row-requires-clause-row g c =
     let d = c.args.shapes.now in
     let u = g.S.Sink.view c.args.sink.now in
-    let es = from (row_emits (walk_of u d) c.in-Some.shape) (walk_of u d).area.top c.loop-y.y in
+    let es = from (row_emits (walk_of u d) c.args.shape.now) (walk_of u d).area.top c.loop-y.y in
     let b = bounded u.scissor u.width u.height (area_same c.view.ensures c.area-area.ensures.value) in
     subst (λ (v : View). c.loop-y.y < v.height) (sym (g.met.S.Sink.same_view d es c.args.sink.now c.loop-y.sink c.loop-y.invariant.sent.taken)) (omega (arith, b.bottom_in))
 
@@ -34,12 +34,12 @@ loop-y-preserved g c =
     let i = c.loop-y.invariant in
     let y = c.loop-y.y in
     let top = (walk_of u d).area.top in
-    let es = from (row_emits (walk_of u d) c.in-Some.shape) top y in
+    let es = from (row_emits (walk_of u d) c.args.shape.now) top y in
     let same = g.met.S.Sink.same_view d es c.args.sink.now c.loop-y.sink i.sent.taken in
     let bottom = ap (λ (r : Area). r.bottom) (area_same c.view.ensures c.area-area.ensures.value) in
     record {
       from_top = omega (arith, i.from_top);
       to_bottom = omega (arith, bottom);
-      sent = sending_more (row_emits (walk_of u d) c.in-Some.shape) top (g.met.S.Sink.took_then d) c.saturating_add-n.ensures i.from_top i.sent
-          (sent_as (ap (λ (v : View). row_emits (walk_of v d) c.in-Some.shape y) same) c.visit_row.ensures.sent);
+      sent = sending_more (row_emits (walk_of u d) c.args.shape.now) top (g.met.S.Sink.took_then d) c.saturating_add-n.ensures i.from_top i.sent
+          (sent_as (ap (λ (v : View). row_emits (walk_of v d) c.args.shape.now y) same) c.visit_row.ensures.sent);
     }

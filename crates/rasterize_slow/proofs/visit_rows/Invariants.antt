@@ -10,5 +10,5 @@ invariant-loop-y g l =
     record {
       from_top : v.area.top ≤ l.y;
       to_bottom : l.y ≤ v.area.bottom;
-      sent : Sent (g.S.Sink.took l.fn.shapes) (from (row_emits v l.shape) v.area.top l.y) l.initial.sink l.sink l.n;
+      sent : Sent (g.S.Sink.took l.fn.shapes) (from (row_emits v l.fn.shape) v.area.top l.y) l.initial.sink l.sink l.n;
     }
