@@ -1,5 +1,5 @@
 // The text of a program's input, and its lines.
-ghost use Rattle.std.specs.Prelude.{◌<◌, ◌≤◌, length, take, IfOk, IfSome};
+ghost use Rattle.std.specs.Prelude.{◌≡◌, ◌<◌, ◌≤◌, length, take, IfOk, IfSome};
 ghost use Rattle.std.specs.Io.KnownBytes.{Consumes, IsAtEnd};
 
 use std::alloc::Global;
@@ -8,6 +8,13 @@ use std::io::{Read, Write};
 
 // One more than the longest input that the programs take.
 pub const SPACE: usize = 524288;
+
+// The same, for a clause to hold.
+fn space() -> usize
+    ensures { result ≡ 524288 }
+{
+    SPACE
+}
 
 // Reads until buf is full or the input ends, and gives how many bytes it put at the start of buf. A `while`, since a read gives as
 // many bytes as it likes: no range or iterator has its steps.
@@ -51,7 +58,7 @@ pub fn with_text<R: Read, W: Write, F: FnOnce(&mut W, &[u8]) -> io::Result<()>>(
 ) -> io::Result<()>
     requires { F.IsAlwaysCallable replay }
 {
-    match read_text(alloc, input, SPACE)? {
+    match read_text(alloc, input, space())? {
         Some(text) => replay(out, &text),
         None => out.write_all(b"input too long\n"),
     }
