@@ -1,13 +1,24 @@
 // Values from a line's words, as the C interface takes them: a struct's fields in their order, a number or a truth value in a word,
 // a float by its bits, an enum by its number. A word that is out of its type's range breaks the line's form.
+ghost use Rattle.std.specs.Prelude.{◌≡◌};
+ghost use Rattle.std.specs.Float.{binary32};
+ghost use Rattle.std.specs.Float.Ieee.{of_bits};
+
 use crate::line::{FromLine, Line};
 use c_types::{Mode, Parts};
 use state::{CombinerUniform, Rgba};
 use std::num::f32_from_bits_with_nan;
 
+// The float with these bits, a NaN's too.
+pub fn float(bits: u32) -> f32
+    ensures { result ≡ of_bits binary32 bits }
+{
+    f32_from_bits_with_nan(bits)
+}
+
 impl FromLine for f32 {
     fn from_line(line: &mut Line<'_>) -> Option<f32> {
-        Some(f32_from_bits_with_nan(line.read()?))
+        Some(float(line.read()?))
     }
 }
 
