@@ -1,9 +1,9 @@
 // Each call: the port is asked with a line's arguments, and its answer held against the line's.
 use crate::draw::Draw;
 use crate::lent::Frame;
+use crate::place::Place;
 use arrayvec::ArrayVec;
 use c_frame::emitted::{emitted_pixel, emitted_pixels};
-use replay_values::line::Line;
 
 #[derive(Clone, Copy, PartialEq, Eq)]
 pub enum Call {
@@ -13,20 +13,22 @@ pub enum Call {
     Mask, // one by its place
 }
 
-// Whether a call's number and its values are those that a line has next, behind ` =`. replay's `held` asks for the line's end too, where slices may follow here.
-fn held(line: &mut Line<'_>, number: u32, values: &[u64]) -> Option<bool> {
-    line.skip(b" =")?;
-    let mut same = line.read::<u32>()? == number;
+// Whether a call's number and its values are those that a line has next, behind ` =`. A number that isn't there is a zero, and a value
+// that isn't there is another. replay's `held` asks for the line's end too, where slices may follow here.
+fn held(line: &mut Place<'_>, number: u32, values: &[u64]) -> bool {
+    let _ = line.skip(b" =");
+    let mut same = line.read().unwrap_or(0) == number;
     for value in values {
-        same &= u64::from(line.read::<u32>()?) == *value;
+        let recorded: Option<u32> = line.read();
+        same &= recorded.is_some_and(|word| u64::from(word) == *value);
     }
-    Some(same)
+    same
 }
 
 // Here and below the fields of a frame are spelled out: the C interface takes a frame as plain slices. Line, engine and frame stay three: the line is read,
 // the engine, by its number in the C interface, is the replay's, and the frame is drawn on or read.
-fn draw(line: &mut Line<'_>, engine: u8, frame: &mut Frame) -> Option<bool> {
-    let draw: Draw = line.read()?;
+fn draw(line: &mut Place<'_>, engine: u8, frame: &mut Frame) -> Option<bool> {
+    let draw = Draw::read(line)?;
     let answer = c_frame::draw(
         engine,
         frame.width,
@@ -36,10 +38,10 @@ fn draw(line: &mut Line<'_>, engine: u8, frame: &mut Frame) -> Option<bool> {
         frame.marks.as_mut_slice(),
         &draw.call(),
     );
-    held(line, answer.number, &[answer.pixels])
+    Some(held(line, answer.number, &[answer.pixels]))
 }
 
-fn read(line: &mut Line<'_>, frame: &Frame) -> Option<bool> {
+fn read(line: &mut Place<'_>, frame: &Frame) -> Option<bool> {
     let answer = c_frame::read_word(
         frame.width,
         frame.height,
@@ -52,11 +54,11 @@ fn read(line: &mut Line<'_>, frame: &Frame) -> Option<bool> {
         line.read()?,
         line.read()?,
     );
-    held(line, answer.number, &[u64::from(answer.value)])
+    Some(held(line, answer.number, &[u64::from(answer.value)]))
 }
 
-fn mask(line: &mut Line<'_>, engine: u8, frame: &Frame) -> Option<bool> {
-    let draw: Draw = line.read()?;
+fn mask(line: &mut Place<'_>, engine: u8, frame: &Frame) -> Option<bool> {
+    let draw = Draw::read(line)?;
     let answer = emitted_pixel(
         engine,
         frame.width,
@@ -68,15 +70,16 @@ fn mask(line: &mut Line<'_>, engine: u8, frame: &Frame) -> Option<bool> {
         line.read()?,
     );
     let values = [u64::from(answer.pixel), u64::from(answer.mask)];
-    held(line, answer.number, &values)
+    Some(held(line, answer.number, &values))
 }
 
 // The two slices stand in the line as they are lent, and behind the answer as they are then.
-fn masks(line: &mut Line<'_>, engine: u8, frame: &Frame) -> Option<bool> {
-    let draw: Draw = line.read()?;
+fn masks(line: &mut Place<'_>, engine: u8, frame: &Frame) -> Option<bool> {
+    let draw = Draw::read(line)?;
     let first = line.read()?;
     let mut pixels: ArrayVec<u32, 48> = line.list()?;
-    let mut masks: ArrayVec<u8, 48> = line.string()?;
+    let mut masks: ArrayVec<u8, 48> = ArrayVec::new();
+    line.string(&mut masks)?;
     let answer = emitted_pixels(
         engine,
         frame.width,
@@ -89,11 +92,10 @@ fn masks(line: &mut Line<'_>, engine: u8, frame: &Frame) -> Option<bool> {
         pixels.as_mut_slice(),
         masks.as_mut_slice(),
     );
-    let counts = held(line, answer.number, &[answer.listed, answer.emitted])?;
+    let counts = held(line, answer.number, &[answer.listed, answer.emitted]);
     let recorded: ArrayVec<u32, 48> = line.list()?;
     let same = recorded.as_slice() == pixels.as_slice();
-    let recorded: ArrayVec<u8, 48> = line.string()?;
-    Some(counts & same & (recorded.as_slice() == masks.as_slice()))
+    Some(counts & same & line.put_over(masks.as_mut_slice()))
 }
 
 impl Call {
@@ -109,16 +111,17 @@ impl Call {
         }
     }
 
-    // The call that a line names, and the line behind its name.
-    pub fn named<'a>(text: &'a [u8]) -> Option<(Call, Line<'a>)> {
+    // The call that a line names, and the place behind its name.
+    pub fn named<'a>(line: Place<'a>) -> Option<(Call, Place<'a>)> {
         Call::ALL.into_iter().find_map(|call| {
-            let rest = text.strip_prefix(call.name().as_bytes())?;
-            Some((call, Line::new(rest)))
+            let mut arguments = line;
+            arguments.skip(call.name().as_bytes())?;
+            Some((call, arguments))
         })
     }
 
     // Whether the port answers a line's arguments as the line does, or None for a line of another form.
-    pub fn agrees(self, line: &mut Line<'_>, engine: u8, frame: &mut Frame) -> Option<bool> {
+    pub fn agrees(self, line: &mut Place<'_>, engine: u8, frame: &mut Frame) -> Option<bool> {
         match self {
             Call::Draw => draw(line, engine, frame),
             Call::Read => read(line, frame),

@@ -1,4 +1,5 @@
 // A draw, as a line has it.
+use crate::place::{Place, padded};
 use arrayvec::ArrayVec;
 use c_draw::GeometryParts;
 use c_types::Mode;
@@ -21,6 +22,33 @@ pub struct Draw {
 }
 
 impl Draw {
+    // The draw that a line has next. Words that its mode or its uniform lacks are zeros, which are set only where all else is there.
+    pub fn read(line: &mut Place<'_>) -> Option<Draw> {
+        let before_mode = line.ahead();
+        let mode = line.read();
+        let before_uniform = line.ahead();
+        let uniform = line.read();
+        let Position {
+            cull,
+            scissor,
+            geometry,
+        } = line.read()?;
+        let vertices = line.list()?;
+        let mut present = ArrayVec::new();
+        line.string(&mut present)?;
+        let indices = line.list()?;
+        Some(Draw {
+            mode: mode.or_else(|| padded(before_mode, 21))?,
+            uniform: uniform.or_else(|| padded(before_uniform, 60))?,
+            cull,
+            scissor,
+            geometry,
+            vertices,
+            present,
+            indices,
+        })
+    }
+
     pub fn call(&self) -> DrawCall<'_> {
         c_frame::draw_call(
             self.mode,
@@ -33,6 +61,14 @@ impl Draw {
             self.indices.as_slice(),
         )
     }
+}
+
+// Where a draw falls, and what it draws.
+#[derive(Clone, Copy)]
+struct Position {
+    cull: bool,
+    scissor: Scissor,
+    geometry: GeometryParts,
 }
 
 fn scissor(line: &mut Line<'_>) -> Option<Scissor> {
@@ -54,17 +90,12 @@ fn geometry(line: &mut Line<'_>) -> Option<GeometryParts> {
     })
 }
 
-impl FromLine for Draw {
-    fn from_line(line: &mut Line<'_>) -> Option<Draw> {
-        Some(Draw {
-            mode: line.read()?,
-            uniform: line.read()?,
+impl FromLine for Position {
+    fn from_line(line: &mut Line<'_>) -> Option<Position> {
+        Some(Position {
             cull: line.read()?,
             scissor: scissor(line)?,
             geometry: geometry(line)?,
-            vertices: line.list()?,
-            present: line.string()?,
-            indices: line.list()?,
         })
     }
 }

@@ -1,12 +1,12 @@
 // A recorded list: a frame, and what its calls left of it.
 use crate::call::Call;
 use crate::lent::Frame;
-use replay_values::line::Line;
+use crate::place::Place;
 
 #[derive(Drop)]
 pub struct List<'a> {
     frame: Frame,
-    recorded: Line<'a>, // from the three slices on, as the last call left them
+    recorded: Option<Place<'a>>, // of the three slices, as the last call left them; none before a list
 }
 
 // Whether a call's answer is the recorded one, and the frame after it.
@@ -17,33 +17,48 @@ pub struct Agreed {
 }
 
 impl<'a> List<'a> {
-    // The list that a line begins, or None where the line is no frame.
-    pub fn new(text: &'a [u8]) -> Option<List<'a>> {
-        let mut line = Line::new(text.strip_prefix(b"frame")?);
-        let width = line.read()?;
-        let height = line.read()?;
-        let recorded = line;
-        let frame = Frame::new(width, height, &mut line)?;
-        line.has_ended().then_some(List { frame, recorded })
+    // No list yet.
+    pub fn new() -> List<'a> {
+        List {
+            frame: Frame::new(),
+            recorded: None,
+        }
     }
 
-    // Asks for a call, whose arguments a line has. Only a draw has slices of its own: the others leave the frame as it was.
-    pub fn replay(&mut self, call: Call, mut line: Line<'a>, engine: u8) -> Agreed {
+    // Goes on with the list that a line begins. Whether it begins one: otherwise there is none.
+    pub fn begin(&mut self, mut line: Place<'a>) -> bool {
+        let _ = line.skip(b"frame");
+        let width = line.read().unwrap_or(0);
+        let height = line.read().unwrap_or(0);
+        let recorded = line;
+        let taken = self.frame.take(width, height, &mut line);
+        let begins = taken.is_some() && line.has_ended();
+        self.recorded = begins.then_some(recorded);
+        begins
+    }
+
+    // Asks for a call, whose arguments a line has, if there is a list. Only a draw has slices of its own: the others leave the frame as
+    // it was.
+    pub fn replay(&mut self, call: Call, mut line: Place<'a>, engine: u8) -> Option<Agreed> {
+        let mut left = self.recorded?;
         let agrees = call.agrees(&mut line, engine, &mut self.frame);
         let draws = call == Call::Draw;
         if draws {
-            self.recorded = agrees.map_or(Line { rest: None }, |_| line);
+            if agrees.is_none() {
+                line.lose();
+            }
+            left = line;
+            self.recorded = Some(line);
         }
-        let mut left = self.recorded;
-        let same = self.frame.is_next(&mut left).unwrap_or(false);
-        Agreed {
+        let same = self.frame.is_next(&mut left);
+        Some(Agreed {
             answer: agrees.unwrap_or(false) && (draws || line.has_ended()),
             frame: same
                 && if draws {
                     left.has_ended()
                 } else {
-                    left.rest.is_some()
+                    left.found()
                 },
-        }
+        })
     }
 }

@@ -16,6 +16,7 @@ mod tally;
 
 use replay_calls::call::Call;
 use replay_calls::list::List;
+use replay_calls::place::Place;
 use replay_values::counts::Counts;
 use replay_values::input::{each_line, with_text};
 use std::io;
@@ -24,10 +25,10 @@ use tally::Tally;
 
 fn complaint(call: Call) -> &'static str {
     match call {
-        Call::Draw => "another answer to a draw",
-        Call::Read => "another answer to a read",
-        Call::Mask => "another emitted pixel",
-        Call::Masks => "another run of emitted pixels",
+        Call::Draw => ": another answer to a draw\n",
+        Call::Read => ": another answer to a read\n",
+        Call::Mask => ": another emitted pixel\n",
+        Call::Masks => ": another run of emitted pixels\n",
     }
 }
 
@@ -43,27 +44,31 @@ fn count<W: Write>(
     if agrees {
         return Ok(());
     }
-    writeln!(out, "line {number}: {complaint}")
+    write!(out, "line {number}")?;
+    out.write_all(complaint.as_bytes())
 }
 
 // Tallies every line of a text, asked of one engine by its number in the C interface, and prints the counts.
 fn replay<W: Write>(out: &mut W, text: &[u8], engine: u8) -> io::Result<()> {
     let mut tally = Tally::default();
-    let mut list: Option<List<'_>> = None;
+    let mut list = List::new();
+    let mut rest = text;
     each_line(text, |number, line| {
-        if let (Some((call, arguments)), Some(list)) = (Call::named(line), &mut list) {
-            let agreed = list.replay(call, arguments, engine);
-            count(out, number, tally.of(call), agreed.answer, complaint(call))?;
-            return count(
-                out,
-                number,
-                &mut tally.frames,
-                agreed.frame,
-                "another frame",
-            );
+        let place = Place::new(text, rest, line);
+        rest = rest.get(line.len() + 1..).unwrap_or(b"");
+        if let Some((call, arguments)) = Call::named(place) {
+            if let Some(agreed) = list.replay(call, arguments, engine) {
+                count(out, number, tally.of(call), agreed.answer, complaint(call))?;
+                return count(
+                    out,
+                    number,
+                    &mut tally.frames,
+                    agreed.frame,
+                    ": another frame\n",
+                );
+            }
         }
-        list = List::new(line);
-        if list.is_some() {
+        if list.begin(place) {
             return Ok(());
         }
         count(
@@ -71,7 +76,7 @@ fn replay<W: Write>(out: &mut W, text: &[u8], engine: u8) -> io::Result<()> {
             number,
             &mut tally.others,
             false,
-            "no frame and no call",
+            ": no frame and no call\n",
         )
     })?;
     write!(out, "{tally}")

@@ -3,5 +3,5 @@
 
 pub mod counts; // how many calls agree
 pub mod input; // the text
-pub mod line; // a line's words, lists and strings
+pub mod line; // a line's words
 pub mod values; // what words stand for

@@ -1,8 +1,6 @@
-// A line from its start on: words of eight lowercase hexadecimal digits, lists of words and strings of bytes, each after a space.
+// A line from its start on: words of eight lowercase hexadecimal digits, each after a space, and bytes of two.
 // It is bytes and no `&str`, since a line that is no text is a disagreement, and printed as it came.
 ghost use Rattle.std.specs.Prelude.{◌≡◌, ◌+◌, ◌<◌, ◌≤◌, ◌==◌, false, ◌++◌, length, IfSome, IsSome, IsNone, IsSomeAnd, MatchOption};
-
-use arrayvec::ArrayVec;
 
 // What is left of a line, and nothing once a read has found something else: then each later read finds nothing, too.
 #[derive(Clone, Copy)]
@@ -19,11 +17,23 @@ pub trait FromLine: Sized {
 fn digit(b: u8) -> Option<u32>
     ensures { IfSome result (λ worth. worth < 16) }
 {
+    let decimal = u32::from(b).wrapping_sub(u32::from(b'0')); // most digits are of these, and one comparison is for both ends
+    if decimal < 10 {
+        return Some(decimal);
+    }
     match b {
-        b'0'..=b'9' => Some(u32::from(b - b'0')),
         b'a'..=b'f' => Some(u32::from(b - b'a') + 10),
         _ => None,
     }
+}
+
+// The number that digits write. Eight of them fit.
+fn number(digits: &[u8]) -> Option<u32> {
+    let mut number = 0;
+    for b in digits {
+        number = (number << 4) | digit(*b)?;
+    }
+    Some(number)
 }
 
 impl<'a> Line<'a> {
@@ -65,10 +75,7 @@ impl<'a> Line<'a> {
         ensures { MatchOption self.new.rest (IsNone result) (λ new. IsSome result × IsSomeAnd self.old.rest (λ old. length old.now ≡ count + length new.now)) }
     {
         let (digits, rest) = self.rest.take()?.split_at_checked(count)?;
-        let mut number = 0;
-        for b in digits {
-            number = (number << 4) | digit(*b)?;
-        }
+        let number = number(digits)?;
         self.rest = Some(rest);
         Some(number)
     }
@@ -85,43 +92,21 @@ impl<'a> Line<'a> {
         (number < limit).then_some(number)
     }
 
-    // How many elements a list or a string has.
-    fn count(&mut self, limit: usize) -> Option<usize>
-        ensures { IfSome result (λ count. count ≤ limit) }
+    // The byte that two digits write.
+    pub fn byte(&mut self) -> Option<u8>
+        ensures { MatchOption self.new.rest (IsNone result) (λ new. IsSome result × IsSomeAnd self.old.rest (λ old. length old.now ≡ 2 + length new.now)) }
     {
-        let count = self.read::<usize>()?;
-        (count <= limit).then_some(count)
-    }
-
-    // A list is its length, at most N, and then its elements. A string is read by a loop of its own, since it has no space in front of
-    // each element, and goes on where the line is broken.
-    pub fn list<T: FromLine + Default + Drop, const N: usize>(&mut self) -> Option<ArrayVec<T, N>> {
-        let mut list = ArrayVec::new();
-        for _ in 0..self.count(N)? {
-            list.try_push(self.read()?).ok()?;
-        }
-        Some(list)
-    }
-
-    // A string is two digits for each byte, with a space before the first. Bytes that the line lacks are zeros, and it is broken.
-    pub fn string<const N: usize>(&mut self) -> Option<ArrayVec<u8, N>> {
-        let mut string = ArrayVec::new();
-        let count = self.count(N)?;
-        if count > 0 {
-            let _ = self.skip(b" "); // a space that is missing breaks the line, and the bytes are zeros
-        }
-        for _ in 0..count {
-            let byte = self.digits(2).unwrap_or(0);
-            string.try_push((byte % 256) as u8).ok()?; // two digits fit
-        }
-        Some(string)
+        let number = self.digits(2)?;
+        Some((number % 256) as u8) // two digits fit
     }
 }
 
 impl FromLine for u32 {
     fn from_line(line: &mut Line<'_>) -> Option<u32> {
-        line.skip(b" ")?;
-        line.digits(8)
+        let (word, rest) = line.rest.take()?.split_at_checked(9)?; // once for the space and the digits: most of a text is words
+        let number = number(word.strip_prefix(b" ")?)?;
+        line.rest = Some(rest);
+        Some(number)
     }
 }
 
