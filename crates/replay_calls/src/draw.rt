@@ -1,5 +1,7 @@
 // A draw, as a line has it.
-use crate::place::{Place, padded};
+ghost use Rattle.std.specs.Prelude.{◌≤◌};
+
+use crate::place::Place;
 use arrayvec::ArrayVec;
 use c_draw::GeometryParts;
 use c_types::Mode;
@@ -61,6 +63,22 @@ impl Draw {
             self.indices.as_slice(),
         )
     }
+}
+
+// A value of so many words, at most 60, which `rest` begins with. From the first word that isn't there on they are zeros, and all are
+// where the text has no room for them.
+fn padded<T: FromLine + Drop>(rest: &[u8], words: usize) -> Option<T>
+    requires { words ≤ 60 }
+{
+    let mut block: ArrayVec<u8, 540> = ArrayVec::new();
+    let mut there = rest.len() >= 9 * words;
+    for i in 0..words {
+        let word = rest.get(9 * i..9 * i + 9).unwrap_or(b"");
+        there = there && Line::new(word).read::<u32>().is_some();
+        let next = if there { word } else { b" 00000000" };
+        let _ = block.try_extend_from_slice(next); // 60 words fit
+    }
+    Line::new(block.as_slice()).read()
 }
 
 // Where a draw falls, and what it draws.

@@ -1,7 +1,7 @@
 // A place in a text of recorded lines, and reads from it on: words, lists of words and strings of bytes, each after a space. A read
 // that finds something else gives nothing, and the place is then the text's first byte, from where the next read goes on: what the
 // first line begins with stands in for what a line lacks. No read goes over the end of a line.
-ghost use Rattle.std.specs.Prelude.{◌≡◌, ◌-◌, ◌*◌, ◌≤◌, ◌==◌, true, false, ◌++◌, length, IsSome, IsNone, IsSomeAnd, IfNone, MatchOption};
+ghost use Rattle.std.specs.Prelude.{◌≡◌, ◌-◌, ◌*◌, ◌≤◌, ◌==◌, true, false, ◌++◌, length, IfSome, IsSome, IsNone, IsSomeAnd, IfNone, MatchOption};
 
 use arrayvec::ArrayVec;
 use replay_values::line::{FromLine, Line};
@@ -11,22 +11,6 @@ pub struct Place<'a> {
     text: &'a [u8],
     left: Line<'a>, // of the text from the place on, and nothing at the text's first byte
     after: usize, // how many bytes the text has from the end of the place's line on
-}
-
-// A value of so many words, at most 60, which `rest` begins with. From the first word that isn't there on they are zeros, and all are
-// where the text has no room for them.
-pub fn padded<T: FromLine + Drop>(rest: &[u8], words: usize) -> Option<T>
-    requires { words ≤ 60 }
-{
-    let mut block: ArrayVec<u8, 540> = ArrayVec::new();
-    let mut there = rest.len() >= 9 * words;
-    for i in 0..words {
-        let word = rest.get(9 * i..9 * i + 9).unwrap_or(b"");
-        there = there && Line::new(word).read::<u32>().is_some();
-        let next = if there { word } else { b" 00000000" };
-        let _ = block.try_extend_from_slice(next); // 60 words fit
-    }
-    Line::new(block.as_slice()).read()
 }
 
 impl<'a> Place<'a> {
@@ -107,7 +91,9 @@ impl<'a> Place<'a> {
     }
 
     // A list is its length, at most N, and then its elements. One that isn't there is a zero, and where it is the last there is no list.
-    pub fn list<T: FromLine + Default + Drop, const N: usize>(&mut self) -> Option<ArrayVec<T, N>> {
+    pub fn list<T: FromLine + Default + Drop, const N: usize>(&mut self) -> Option<ArrayVec<T, N>>
+        ensures { IfSome result (λ list. IsSome self.new.left.rest) }
+    {
         let mut list = ArrayVec::new();
         for _ in 0..self.count(N) {
             list.try_push(self.read().unwrap_or_default()).ok()?;
@@ -132,7 +118,9 @@ impl<'a> Place<'a> {
     }
 
     // Puts a string of at most N bytes in place of another. There is none where the last byte isn't there.
-    pub fn string<const N: usize>(&mut self, to: &mut ArrayVec<u8, N>) -> Option<()> {
+    pub fn string<const N: usize>(&mut self, to: &mut ArrayVec<u8, N>) -> Option<()>
+        ensures { IfSome result (λ _. IsSome self.new.left.rest) }
+    {
         to.clear();
         for _ in 0..self.length(N) {
             to.try_push(self.byte()).ok()?;
