@@ -23,25 +23,25 @@ use Rattle.rasterize_slow.specs.declared.Shape.{Shape}
 use Rattle.rasterize_slow.specs.declared.Shape.TheVariants.{Triangle, Rectangle}
 use Rattle.rasterize_slow.specs.Shape.{sample_hit, pair_hit, shape_mask, shape_shade, shape_fragment, optional_fragment}
 
-pub pair_lt : (shape : Shape) (y x line : ℕ) → pair_hit shape y x line < 4
+pub pair_lt : (shape : Option Shape) (y x line : ℕ) → pair_hit shape y x line < 4
 unfolding pair_hit
 pair_lt shape y x line = omega (arith, bit_lt (sample_hit shape y x line 0), bit_lt (sample_hit shape y x line 1))
 
-pub mask_lt : (shape : Shape) (y x : ℕ) → shape_mask shape y x < 256
+pub mask_lt : (shape : Option Shape) (y x : ℕ) → shape_mask shape y x < 256
 unfolding shape_mask
 mask_lt shape y x = omega (arith, pair_lt shape y x 0, pair_lt shape y x 1, pair_lt shape y x 2, pair_lt shape y x 3)
 
 -- a triangle
 triangle_pair :
     (t : Tri) (o : List Vertex) (y x line : ℕ)
-    → pair_hit (Triangle t o) y x line ≡ two_of (line_of t (y * 4 + line)).l (line_of t (y * 4 + line)).r (sample_at x line)
+    → pair_hit (Some (Triangle t o)) y x line ≡ two_of (line_of t (y * 4 + line)).l (line_of t (y * 4 + line)).r (sample_at x line)
 unfolding pair_hit sample_hit two_of
 triangle_pair t o y x line =
     λ i.
     2 * bit_of (inside (line_of t (y * 4 + line)).l (line_of t (y * 4 + line)).r (add-zero (sample_at x line) i))
     + bit_of (inside (line_of t (y * 4 + line)).l (line_of t (y * 4 + line)).r (sample_at x line + 4))
 
-pub triangle_mask : (t : Tri) (o : List Vertex) (y x : ℕ) → shape_mask (Triangle t o) y x ≡ mask_of (edges_of t y) x
+pub triangle_mask : (t : Tri) (o : List Vertex) (y x : ℕ) → shape_mask (Some (Triangle t o)) y x ≡ mask_of (edges_of t y) x
 unfolding shape_mask mask_of pair_of edges_of
 triangle_mask t o y x =
     λ i. 64 * triangle_pair t o y x 0 i + 16 * triangle_pair t o y x 1 i + 4 * triangle_pair t o y x 2 i + triangle_pair t o y x 3 i
@@ -51,7 +51,7 @@ scaled : (t : Bool) (n : ℕ) → n * bit_of t ≡ cond t n 0
 scaled true n = omega arith
 scaled false n = omega arith
 
-pub rectangle_mask : (s : Sides) (y x : ℕ) → shape_mask (Rectangle s) y x ≡ rect_mask s x y
+pub rectangle_mask : (s : Sides) (y x : ℕ) → shape_mask (Some (Rectangle s)) y x ≡ rect_mask s x y
 unfolding shape_mask pair_hit sample_hit rect_mask row_bits sample_bit
 rectangle_mask s y x =
     omega (
@@ -75,12 +75,12 @@ HasSample f = (0 < f.mask) × (f.mask < 256)
 
 pub fragment_some : (antialias : Bool) (k : Combiner) (shape : Shape) (y x : ℕ) → IfSome (shape_fragment antialias k shape y x) HasSample
 unfolding shape_fragment
-fragment_some antialias k shape y x = go (shown antialias (shape_mask shape y x)) refl (color_of k (shape_shade shape y x))
+fragment_some antialias k shape y x = go (shown antialias (shape_mask (Some shape) y x)) refl (color_of k (shape_shade shape y x))
   where
-    go : (b : Bool) → shown antialias (shape_mask shape y x) ≡ b → (c : Option Rgba) → IfSome (cond b (covered (shape_mask shape y x) c (shape_shade shape y x).a) None) HasSample
+    go : (b : Bool) → shown antialias (shape_mask (Some shape) y x) ≡ b → (c : Option Rgba) → IfSome (cond b (covered (shape_mask (Some shape) y x) c (shape_shade shape y x).a) None) HasSample
     go false e c = tt
     go true e None = tt
-    go true e (Some c) = (shown_some antialias (shape_mask shape y x) e, mask_lt shape y x)
+    go true e (Some c) = (shown_some antialias (shape_mask (Some shape) y x) e, mask_lt (Some shape) y x)
 
 -- a shape that is not there emits nothing
 pub optional_some : (antialias : Bool) (k : Combiner) (shape : Option Shape) (y x : ℕ) → IfSome (optional_fragment antialias k shape y x) HasSample

@@ -1,6 +1,6 @@
 -- Inner vocabulary. A shape as the slow engine has it, sample by sample, and what its pixels emit. Definitions only; that these are the pixels of raster_pixel/specs/Emitted
 -- is proofs/Emitted.
-use Rattle.std.specs.Prelude.{ℕ, ◌+◌, ◌*◌, ◌/◌, Bool, List, [], Float, length, Option, None, Some, if◌then◌else◌}
+use Rattle.std.specs.Prelude.{ℕ, ◌+◌, ◌*◌, ◌/◌, Bool, false, List, [], Float, length, Option, None, Some, if◌then◌else◌}
 use Rattle.state.specs.declared.RenderMode.{RenderMode}
 use Rattle.state.specs.declared.Rgba.{Rgba}
 use Rattle.combiner.specs.declared.Combiner.{Combiner}
@@ -29,17 +29,18 @@ use Rattle.rasterize_slow.specs.declared.Shape.TheVariants.{Triangle, Rectangle}
 
 -- ---- samples
 
--- the shape holds the sample of pixel (x, y) on this line of four: the left one, side 0, or the right one, side 1
-unfoldable pub sample_hit : Shape → ℕ → ℕ → ℕ → ℕ → Bool
-sample_hit (Triangle t o) y x line side = inside (line_of t (y * 4 + line)).l (line_of t (y * 4 + line)).r (sample_at x line + side * 4)
-sample_hit (Rectangle s) y x line side = inside_of s (sample_x x line side) (sample_y y line)
+-- the shape holds the sample of pixel (x, y) on this line of four: the left one, side 0, or the right one, side 1; one that is not there holds none
+unfoldable pub sample_hit : Option Shape → ℕ → ℕ → ℕ → ℕ → Bool
+sample_hit None y x line side = false
+sample_hit (Some (Triangle t o)) y x line side = inside (line_of t (y * 4 + line)).l (line_of t (y * 4 + line)).r (sample_at x line + side * 4)
+sample_hit (Some (Rectangle s)) y x line side = inside_of s (sample_x x line side) (sample_y y line)
 
 -- a line's two samples, the left one counts 2
-unfoldable pub pair_hit : Shape → ℕ → ℕ → ℕ → ℕ
+unfoldable pub pair_hit : Option Shape → ℕ → ℕ → ℕ → ℕ
 pair_hit shape y x line = 2 * bit_of (sample_hit shape y x line 0) + bit_of (sample_hit shape y x line 1)
 
 -- the four lines, line 0 in the highest bits
-unfoldable pub shape_mask : Shape → ℕ → ℕ → ℕ
+unfoldable pub shape_mask : Option Shape → ℕ → ℕ → ℕ
 shape_mask shape y x = 64 * pair_hit shape y x 0 + 16 * pair_hit shape y x 1 + 4 * pair_hit shape y x 2 + pair_hit shape y x 3
 
 -- ---- pixels
@@ -50,7 +51,7 @@ shape_shade (Rectangle s) y x = full_shade
 
 unfoldable pub shape_fragment : Bool → Combiner → Shape → ℕ → ℕ → Option Fragment
 shape_fragment antialias k shape y x =
-    if shown antialias (shape_mask shape y x) then covered (shape_mask shape y x) (color_of k (shape_shade shape y x)) (shape_shade shape y x).a else None
+    if shown antialias (shape_mask (Some shape) y x) then covered (shape_mask (Some shape) y x) (color_of k (shape_shade shape y x)) (shape_shade shape y x).a else None
 
 -- of a shape that may not be there: then nothing
 abbrev pub optional_fragment : Bool → Combiner → Option Shape → ℕ → ℕ → Option Fragment

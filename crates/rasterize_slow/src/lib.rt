@@ -63,18 +63,19 @@ fn indexed(shapes: &Shapes, i: usize) -> Option<Shape>
 // ---- the samples of a pixel. That column and row are below 1,024 is a clause here and below: nothing keeps a place, it is the loops' two counters.
 
 // Whether a shape holds a sample of pixel (x, y): on line 0 to 3 of its four, the left one, side 0, or the right one, side 1. On the odd lines both lie a quarter of a
-// pixel further right. Line and side are numbers, since a sample's place is reckoned from them.
+// pixel further right. Line and side are numbers, since a sample's place is reckoned from them. A shape that is not there is asked as any other, and holds none.
 #[tactic(auto, unfolding(crate::specs::Shape::sample_hit))]
-fn sample(shape: &Shape, y: u32, x: u32, line: u32, side: u32) -> bool
-    requires { (x < 1024) × (y < 1024) × (line < 4) × (side < 2) × TameShape shape.now }
+fn sample(shape: &Option<Shape>, y: u32, x: u32, line: u32, side: u32) -> bool
+    requires { (x < 1024) × (y < 1024) × (line < 4) × (side < 2) × IfSome shape.now TameShape }
     ensures { result ≡ sample_hit shape.now y x line side }
 {
     match shape {
-        Shape::Triangle(t, _) => {
+        None => false,
+        Some(Shape::Triangle(t, _)) => {
             let span = raster_edges::line_at(*t, y * 4 + line);
             raster_edges::inside(span.l, span.r, x * 8 + (line & 1) * 2 + side * 4)
         }
-        Shape::Rectangle(sides) => {
+        Some(Shape::Rectangle(sides)) => {
             let column = (line & 1) + side * 2;
             raster_rectangle::quarter_within(sides.left, sides.right, x, column)
                 && raster_rectangle::quarter_within(sides.top, sides.bottom, y, line)
@@ -85,8 +86,8 @@ fn sample(shape: &Shape, y: u32, x: u32, line: u32, side: u32) -> bool
 // The two samples of a line, the left one in the upper bit. This and the next have twins in raster_edges, over the edges of a row: here they are read from the sample up, beside
 // the papers.
 #[tactic(auto, unfolding(crate::specs::Shape::pair_hit))]
-fn pair(shape: &Shape, y: u32, x: u32, line: u32) -> u8
-    requires { (x < 1024) × (y < 1024) × (line < 4) × TameShape shape.now }
+fn pair(shape: &Option<Shape>, y: u32, x: u32, line: u32) -> u8
+    requires { (x < 1024) × (y < 1024) × (line < 4) × IfSome shape.now TameShape }
     ensures { result ≡ pair_hit shape.now y x line }
 {
     ((sample(shape, y, x, line, 0) as u8) << 1) | (sample(shape, y, x, line, 1) as u8)
@@ -94,8 +95,8 @@ fn pair(shape: &Shape, y: u32, x: u32, line: u32) -> u8
 
 // The eight samples: bit 7 is the upper line's left one.
 #[tactic(auto, unfolding(crate::specs::Shape::shape_mask))]
-fn mask(shape: &Shape, y: u32, x: u32) -> u8
-    requires { (x < 1024) × (y < 1024) × TameShape shape.now }
+fn mask(shape: &Option<Shape>, y: u32, x: u32) -> u8
+    requires { (x < 1024) × (y < 1024) × IfSome shape.now TameShape }
     ensures { result ≡ shape_mask shape.now y x }
 {
     let a = pair(shape, y, x, 0);
@@ -118,7 +119,8 @@ fn shade(shape: &Shape, y: u32, x: u32) -> Rgba
     }
 }
 
-// Nothing if no sample is hit; without antialias, nothing unless the upper left one is. A shape that is not there, as `triangle` answers it, holds no sample.
+// Nothing if no sample is hit; without antialias, nothing unless the upper left one is. A shape that is not there, as `triangle` answers it, holds no sample: its eight are
+// tested as any other's, so that a visited pixel costs them whatever the triangle is.
 #[tactic(auto, unfolding(crate::specs::Shape::shape_fragment))]
 pub fn pixel(
     antialias: bool,
@@ -130,11 +132,11 @@ pub fn pixel(
     requires { (x < 1024) × (y < 1024) × IfSome shape.now TameShape }
     ensures { result ≡ optional_fragment antialias combiner.now shape.now y x }
 {
-    let shape = shape.as_ref()?;
     let mask = mask(shape, y, x);
     if !raster_pixel::is_shown(antialias, mask) {
         return None;
     }
+    let shape = shape.as_ref()?;
     let shade = shade(shape, y, x);
     let color = combiner.color(shade)?;
     Some(Fragment {
