@@ -33,10 +33,5 @@ fn replay<W: Write>(out: &mut W, text: &[u8]) -> io::Result<()> {
 
 fn main(rt: HostRuntime) -> io::Result<()> {
     let mut out = io::writer(&rt);
-    with_text(
-        rt.alloc(),
-        &mut rt.reader(),
-        &mut out,
-        |out, text| replay(out, text),
-    )
+    with_text(&mut rt.reader(), &mut out, |out, text| replay(out, text))
 }

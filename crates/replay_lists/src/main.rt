@@ -84,7 +84,7 @@ fn replay<W: Write>(out: &mut W, text: &[u8], engine: u8) -> io::Result<()> {
 
 fn main(rt: HostRuntime) -> io::Result<()> {
     let mut out = io::writer(&rt);
-    with_text(rt.alloc(), &mut rt.reader(), &mut out, |out, text| {
+    with_text(&mut rt.reader(), &mut out, |out, text| {
         out.write_all(b"the fast engine\n")?;
         replay(out, text, 0)?;
         out.write_all(b"the slow engine\n")?;

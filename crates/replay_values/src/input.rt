@@ -2,18 +2,18 @@
 ghost use Rattle.std.specs.Prelude.{◌≡◌, ◌<◌, ◌≤◌, length, take, IfOk, IfSome};
 ghost use Rattle.std.specs.Io.KnownBytes.{Consumes, IsAtEnd};
 
-use std::alloc::Global;
 use std::io;
 use std::io::{Read, Write};
 
 // One more than the longest input that the programs take.
 pub const SPACE: usize = 524288;
 
-// The same, for a clause to hold.
-fn space() -> usize
-    ensures { result ≡ 524288 }
+// Room for the input, an array: the programs ask for no memory, which could be refused.
+fn space() -> [u8; SPACE]
+    ensures limit { SPACE ≡ 524288 }
+    ensures room { 524288 ≡ length result }
 {
-    SPACE
+    [0; SPACE]
 }
 
 // Reads until buf is full or the input ends, and gives how many bytes it put at the start of buf. A `while`, since a read gives as
@@ -34,32 +34,29 @@ pub fn read_full<R: Read>(input: &mut R, buf: &mut [u8]) -> io::Result<usize>
     Ok(done)
 }
 
-// The whole input, where it is shorter than `space`.
-pub fn read_text<R: Read>(alloc: Global, input: &mut R, space: usize) -> io::Result<Option<Vec<u8>>>
-    ensures short { IfOk result (λ read. IfSome read (λ text. length text.items < space)) }
-    ensures bytes { IfOk result (λ read. IfSome read (λ text. Consumes (R.remaining input.old) (R.remaining input.new) text.items)) }
+// The whole input, at the start of `space`, where it doesn't fill it.
+pub fn read_text<'a, R: Read>(input: &mut R, space: &'a mut [u8]) -> io::Result<Option<&'a [u8]>>
+    ensures short { IfOk result (λ read. IfSome read (λ text. length text.now < length space.old)) }
+    ensures bytes { IfOk result (λ read. IfSome read (λ text. Consumes (R.remaining input.old) (R.remaining input.new) text.now)) }
     ensures whole { IfOk result (λ read. IfSome read (λ text. IsAtEnd (R.remaining input.new))) }
 {
-    let mut text = vec![in alloc; 0u8; space]?;
-    let n = read_full(input, &mut text)?;
-    if n == space {
+    let n = read_full(input, space)?;
+    if n == space.len() {
         return Ok(None);
     }
-    text.truncate(n);
-    Ok(Some(text))
+    Ok(Some(&space[..n]))
 }
 
 // Hands on the whole input, or says that it is too long.
 pub fn with_text<R: Read, W: Write, F: FnOnce(&mut W, &[u8]) -> io::Result<()>>(
-    alloc: Global,
     input: &mut R,
     out: &mut W,
     replay: F,
 ) -> io::Result<()>
     requires { F.IsAlwaysCallable replay }
 {
-    match read_text(alloc, input, space())? {
-        Some(text) => replay(out, &text),
+    match read_text(input, &mut space())? {
+        Some(text) => replay(out, text),
         None => out.write_all(b"input too long\n"),
     }
 }
@@ -84,11 +81,12 @@ mod tests {
 
     #[test]
     fn reads_what_is_shorter(rt: HostRuntime) -> Result<(), Fail> {
+        let mut space = [0u8; 4];
         let mut input: &[u8] = &[1, 2, 3];
-        let text = read_text(rt.alloc(), &mut input, 4)?.ok_or("too long")?;
-        assert_eq!(rt; text.as_slice(), [1u8, 2, 3].as_slice());
+        let text = read_text(&mut input, &mut space)?.ok_or("too long")?;
+        assert_eq!(rt; text, [1u8, 2, 3].as_slice());
         let mut input: &[u8] = &[1, 2, 3, 4];
-        assert!(rt; read_text(rt.alloc(), &mut input, 4)?.is_none());
+        assert!(rt; read_text(&mut input, &mut space)?.is_none());
         Ok(())
     }
 }
