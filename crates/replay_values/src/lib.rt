@@ -3,5 +3,5 @@
 
 pub mod counts; // how many calls agree
 pub mod input; // the text
-pub mod line; // a line's words
+pub mod line; // a line's words and lists
 pub mod values; // what words stand for

@@ -1,6 +1,8 @@
-// A line from its start on: words of eight lowercase hexadecimal digits, each after a space, and bytes of two.
+// A line from its start on: words of eight lowercase hexadecimal digits and lists of words, each after a space, and bytes of two.
 // It is bytes and no `&str`, since a line that is no text is a disagreement, and printed as it came.
-ghost use Rattle.std.specs.Prelude.{◌≡◌, ◌+◌, ◌<◌, ◌≤◌, ◌==◌, false, ◌++◌, length, IfSome, IsSome, IsNone, IsSomeAnd, MatchOption};
+ghost use Rattle.std.specs.Prelude.{◌≡◌, ◌+◌, ◌<◌, ◌≤◌, ◌==◌, false, ◌++◌, length, IfSome, IfNone, IsSome, IsNone, IsSomeAnd, MatchOption};
+
+use arrayvec::ArrayVec;
 
 // What is left of a line, and nothing once a read has found something else: then each later read finds nothing, too.
 #[derive(Clone, Copy)]
@@ -92,6 +94,26 @@ impl<'a> Line<'a> {
         (number < limit).then_some(number)
     }
 
+    // How many elements a list has.
+    fn count(&mut self, limit: usize) -> Option<usize>
+        ensures limit { IfSome result (λ count. count ≤ limit) }
+        ensures lost { IfNone self.old.rest (IsNone result) }
+    {
+        let count = u32::from_line(self)? as usize;
+        (count <= limit).then_some(count)
+    }
+
+    // A list is its length, at most N, and then its elements.
+    pub fn list<T: FromLine + Default + Drop, const N: usize>(&mut self) -> Option<ArrayVec<T, N>>
+        ensures { IfNone self.old.rest (IsNone result) }
+    {
+        let mut list = ArrayVec::new();
+        for _ in 0..self.count(N)? {
+            list.try_push(self.read()?).ok()?;
+        }
+        Some(list)
+    }
+
     // The byte that two digits write.
     pub fn byte(&mut self) -> Option<u8>
         ensures { MatchOption self.new.rest (IsNone result) (λ new. IsSome result × IsSomeAnd self.old.rest (λ old. length old.now ≡ 2 + length new.now)) }
@@ -102,7 +124,9 @@ impl<'a> Line<'a> {
 }
 
 impl FromLine for u32 {
-    fn from_line(line: &mut Line<'_>) -> Option<u32> {
+    fn from_line(line: &mut Line<'_>) -> Option<u32>
+        ensures { IfNone line.old.rest (IsNone result) }
+    {
         let (word, rest) = line.rest.take()?.split_at_checked(9)?; // once for the space and the digits: most of a text is words
         let number = number(word.strip_prefix(b" ")?)?;
         line.rest = Some(rest);
@@ -145,5 +169,25 @@ impl FromLine for bool {
 impl<T: FromLine + Drop> FromLine for [T; 4] {
     fn from_line(line: &mut Line<'_>) -> Option<[T; 4]> {
         Some([line.read()?, line.read()?, line.read()?, line.read()?])
+    }
+}
+
+#[cfg(test)]
+mod tests {
+    use super::*;
+    use std::test::Fail;
+
+    #[test]
+    fn reads_a_list(rt: HostRuntime) -> Result<(), Fail> {
+        let mut line = Line::new(b" 00000002 0000000a ffffffff 00000003");
+        let list: ArrayVec<u32, 2> = line.list().ok_or("no list")?;
+        assert_eq!(rt; list.as_slice(), [10u32, 4294967295].as_slice());
+        let long: Option<ArrayVec<u32, 2>> = line.list();
+        assert!(rt; long.is_none());
+        let broken: Option<ArrayVec<u8, 2>> = Line::new(b" 00000002 00000001").list();
+        assert!(rt; broken.is_none());
+        let lost: Option<ArrayVec<u8, 2>> = Line { rest: None }.list();
+        assert!(rt; lost.is_none());
+        Ok(())
     }
 }
