@@ -1,5 +1,5 @@
 // A draw, as a line has it.
-ghost use Rattle.std.specs.Prelude.{◌≤◌};
+ghost use Rattle.std.specs.Prelude.{◌≤◌, IfNone, IsNone};
 
 use crate::place::Place;
 use arrayvec::ArrayVec;
@@ -65,6 +65,21 @@ impl Draw {
     }
 }
 
+// A draw in a line without a text around it.
+impl FromLine for Draw {
+    fn from_line(line: &mut Line<'_>) -> Option<Draw>
+        ensures { IfNone result (IsNone line.new.rest) }
+    {
+        let mut place = Place::alone(*line);
+        let draw = Draw::read(&mut place);
+        *line = match draw {
+            Some(_) => place.line(),
+            None => Line { rest: None },
+        };
+        draw
+    }
+}
+
 // A value of so many words, at most 60, which `rest` begins with. From the first word that isn't there on they are zeros, and all are
 // where the text has no room for them.
 fn padded<T: FromLine + Drop>(rest: &[u8], words: usize) -> Option<T>
@@ -115,5 +130,26 @@ impl FromLine for Position {
             scissor: scissor(line)?,
             geometry: geometry(line)?,
         })
+    }
+}
+
+#[cfg(test)]
+mod tests {
+    use super::*;
+    use std::test::Fail;
+
+    #[test]
+    fn reads_a_draw_of_a_line_alone(rt: HostRuntime) -> Result<(), Fail> {
+        let mut text: ArrayVec<u8, 846> = ArrayVec::new();
+        for _ in 0..94 {
+            let _ = text.try_extend_from_slice(b" 00000000"); // 94 words fit
+        }
+        let mut line = Line::new(text.as_slice());
+        let draw: Option<Draw> = line.read();
+        assert!(rt; draw.is_some() && line.has_ended());
+        let mut short = Line::new(text.as_slice().get(9..).ok_or("empty")?);
+        let draw: Option<Draw> = short.read();
+        assert!(rt; draw.is_none() && short.rest.is_none());
+        Ok(())
     }
 }

@@ -1,7 +1,10 @@
 // A recorded list: a frame, and what its calls left of it.
+ghost use Rattle.std.specs.Prelude.{◌≡◌, false, IfNone, IsNone, IsSome, MatchOption};
+
 use crate::call::Call;
 use crate::lent::Frame;
 use crate::place::Place;
+use replay_values::line::Line;
 
 #[derive(Drop)]
 pub struct List<'a> {
@@ -37,9 +40,22 @@ impl<'a> List<'a> {
         begins
     }
 
+    // Asks for a call, whose arguments stand in a line without a text around it. Nothing agrees where there is no list.
+    pub fn replay(&mut self, call: Call, line: Line<'a>, engine: u8) -> Agreed
+        ensures { IfNone self.old.recorded ((result.answer ≡ false) × (result.frame ≡ false)) }
+    {
+        self.replay_at(call, Place::alone(line), engine)
+            .unwrap_or(Agreed {
+                answer: false,
+                frame: false,
+            })
+    }
+
     // Asks for a call, whose arguments a line has, if there is a list. Only a draw has slices of its own: the others leave the frame as
     // it was.
-    pub fn replay(&mut self, call: Call, mut line: Place<'a>, engine: u8) -> Option<Agreed> {
+    pub fn replay_at(&mut self, call: Call, mut line: Place<'a>, engine: u8) -> Option<Agreed>
+        ensures { MatchOption self.old.recorded (IsNone result) (λ _. IsSome result) }
+    {
         let mut left = self.recorded?;
         let agrees = call.agrees(&mut line, engine, &mut self.frame);
         let draws = call == Call::Draw;
@@ -60,5 +76,27 @@ impl<'a> List<'a> {
                     left.found()
                 },
         })
+    }
+}
+
+#[cfg(test)]
+mod tests {
+    use super::*;
+    use std::test::Fail;
+
+    const READ: &[u8] = b" 00000000 00000000 00000002 00000000 00000000 = 00000000 00000001";
+
+    #[test]
+    fn asks_by_a_line_alone(rt: HostRuntime) -> Result<(), Fail> {
+        let mut list = List::new();
+        let before = list.replay(Call::Read, Line::new(READ), 0);
+        assert!(rt; !before.answer && !before.frame);
+        let frame = Line::new(b"frame 00000001 00000001 00000003 000000 00000001 07 00000001 03");
+        assert!(rt; list.begin(Place::alone(frame)));
+        let agreed = list.replay(Call::Read, Line::new(READ), 0);
+        assert!(rt; agreed.answer && agreed.frame);
+        let broken = list.replay(Call::Read, Line::new(&READ[..READ.len() - 1]), 1);
+        assert!(rt; !broken.answer && broken.frame);
+        Ok(())
     }
 }

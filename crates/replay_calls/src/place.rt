@@ -27,6 +27,28 @@ impl<'a> Place<'a> {
         }
     }
 
+    // What is left of a line, without a text around it: where a read finds something else, each later one finds nothing.
+    pub fn alone(line: Line<'a>) -> Place<'a>
+        ensures left { result.left ≡ line.entry }
+        ensures text { length result.text.now ≡ 0 }
+        ensures after { result.after ≡ 0 }
+    {
+        Place {
+            text: b"",
+            left: line,
+            after: 0,
+        }
+    }
+
+    // What is left of the text as of a line, and nothing at the text's first byte.
+    pub fn line(&self) -> Line<'a>
+        ensures { result ≡ self.now.left }
+    {
+        Line {
+            rest: self.left.rest,
+        }
+    }
+
     // Whether the last read found what it asked for.
     pub fn found(&self) -> bool
         ensures { MatchOption self.now.left.rest (result ≡ false) (λ left. result ≡ true) }

@@ -57,7 +57,7 @@ fn replay<W: Write>(out: &mut W, text: &[u8], engine: u8) -> io::Result<()> {
         let place = Place::new(text, rest, line);
         rest = rest.get(line.len() + 1..).unwrap_or(b"");
         if let Some((call, arguments)) = Call::named(place) {
-            if let Some(agreed) = list.replay(call, arguments, engine) {
+            if let Some(agreed) = list.replay_at(call, arguments, engine) {
                 count(out, number, tally.of(call), agreed.answer, complaint(call))?;
                 return count(
                     out,
