@@ -27,7 +27,7 @@ impl<'a> Place<'a> {
         }
     }
 
-    // What is left of a line, without a text around it: where a read finds something else, each later one finds nothing.
+    // What is left of a line, without a text around it: behind a word, list or string that isn't there no other is.
     pub fn alone(line: Line<'a>) -> Place<'a>
         ensures left { result.left ≡ line.entry }
         ensures text { length result.text.now ≡ 0 }
