@@ -120,8 +120,8 @@ impl Call {
         })
     }
 
-    // Whether the port answers a line's arguments as the line does, or None where these have another form. Whether all of the answer is
-    // there, the place says (`found`).
+    // Whether the port answers a line's arguments as the line does, or None where the arguments or a run's pixels have another form. Where
+    // the masks of an empty run have no length, that shows in the place alone (`found`).
     pub fn agrees(self, line: &mut Place<'_>, engine: u8, frame: &mut Frame) -> Option<bool> {
         match self {
             Call::Draw => draw(line, engine, frame),

@@ -1,5 +1,5 @@
 // A draw, as a line has it.
-ghost use Rattle.std.specs.Prelude.{◌≤◌, IfNone, IsNone};
+ghost use Rattle.std.specs.Prelude.{◌≤◌, IfSome, IsSome, IsNone, MatchOption};
 
 use crate::place::Place;
 use arrayvec::ArrayVec;
@@ -25,7 +25,9 @@ pub struct Draw {
 
 impl Draw {
     // The draw that a line has next. Words that its mode or its uniform lacks are zeros, which are set only where all else is there.
-    pub fn read(line: &mut Place<'_>) -> Option<Draw> {
+    pub fn read(line: &mut Place<'_>) -> Option<Draw>
+        ensures { IfSome result (λ _. IsSome line.new.left.rest) }
+    {
         let before_mode = line.ahead();
         let mode = line.read();
         let before_uniform = line.ahead();
@@ -68,7 +70,7 @@ impl Draw {
 // A draw in a line without a text around it.
 impl FromLine for Draw {
     fn from_line(line: &mut Line<'_>) -> Option<Draw>
-        ensures { IfNone result (IsNone line.new.rest) }
+        ensures { MatchOption result (IsNone line.new.rest) (λ _. IsSome line.new.rest) }
     {
         let mut place = Place::alone(*line);
         let draw = Draw::read(&mut place);

@@ -1,5 +1,5 @@
 // A recorded list: a frame, and what its calls left of it.
-ghost use Rattle.std.specs.Prelude.{◌≡◌, false, IfNone, IsNone, IsSome, MatchOption};
+ghost use Rattle.std.specs.Prelude.{◌≡◌, true, false, IfNone, IsNone, IsSome, MatchOption};
 
 use crate::call::Call;
 use crate::lent::Frame;
@@ -21,7 +21,9 @@ pub struct Agreed {
 
 impl<'a> List<'a> {
     // No list yet.
-    pub fn new() -> List<'a> {
+    pub fn new() -> List<'a>
+        ensures { IsNone result.recorded }
+    {
         List {
             frame: Frame::new(),
             recorded: None,
@@ -29,7 +31,9 @@ impl<'a> List<'a> {
     }
 
     // Goes on with the list that a line begins. Whether it begins one: otherwise there is none.
-    pub fn begin(&mut self, mut line: Place<'a>) -> bool {
+    pub fn begin(&mut self, mut line: Place<'a>) -> bool
+        ensures { MatchOption self.new.recorded (result ≡ false) (λ _. result ≡ true) }
+    {
         let _ = line.skip(b"frame");
         let width = line.read().unwrap_or(0);
         let height = line.read().unwrap_or(0);
@@ -42,7 +46,8 @@ impl<'a> List<'a> {
 
     // Asks for a call, whose arguments stand in a line without a text around it. Nothing agrees where there is no list.
     pub fn replay(&mut self, call: Call, line: Line<'a>, engine: u8) -> Agreed
-        ensures { IfNone self.old.recorded ((result.answer ≡ false) × (result.frame ≡ false)) }
+        ensures none { IfNone self.old.recorded ((result.answer ≡ false) × (result.frame ≡ false)) }
+        ensures list { MatchOption self.old.recorded (IsNone self.new.recorded) (λ _. IsSome self.new.recorded) }
     {
         self.replay_at(call, Place::alone(line), engine)
             .unwrap_or(Agreed {
@@ -54,7 +59,7 @@ impl<'a> List<'a> {
     // Asks for a call, whose arguments a line has, if there is a list. Only a draw has slices of its own: the others leave the frame as
     // it was.
     pub fn replay_at(&mut self, call: Call, mut line: Place<'a>, engine: u8) -> Option<Agreed>
-        ensures { MatchOption self.old.recorded (IsNone result) (λ _. IsSome result) }
+        ensures { MatchOption self.old.recorded (IsNone result × IsNone self.new.recorded) (λ _. IsSome result × IsSome self.new.recorded) }
     {
         let mut left = self.recorded?;
         let agrees = call.agrees(&mut line, engine, &mut self.frame);

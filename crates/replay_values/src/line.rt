@@ -125,7 +125,7 @@ impl<'a> Line<'a> {
 
 impl FromLine for u32 {
     fn from_line(line: &mut Line<'_>) -> Option<u32>
-        ensures { IfNone line.old.rest (IsNone result) }
+        ensures { MatchOption line.new.rest (IsNone result) (λ new. IsSome result × IsSomeAnd line.old.rest (λ old. length old.now ≡ 9 + length new.now)) }
     {
         let (word, rest) = line.rest.take()?.split_at_checked(9)?; // once for the space and the digits: most of a text is words
         let number = number(word.strip_prefix(b" ")?)?;
